@@ -1,0 +1,7 @@
+-- The definitions that the contracts cite.
+pub mod Details
+pub mod Exactly
+pub mod Lent
+pub mod Limits
+pub mod Refusals
+pub mod Rows
