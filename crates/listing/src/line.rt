@@ -24,7 +24,7 @@ pub struct Line {
 }
 
 impl Line {
-    pub fn of_event(offset: usize, event: &Event) -> Line
+    pub(crate) fn of_event(offset: usize, event: &Event) -> Line
         ensures { λ r. ⌜ r ≡ event-line offset (now (event .entry)) ⌝ }
     {
         Line {
@@ -34,7 +34,7 @@ impl Line {
         }
     }
 
-    pub fn of_stop(offset: usize, stop: Stop) -> Line
+    pub(crate) fn of_stop(offset: usize, stop: Stop) -> Line
         ensures { λ r. ⌜ r ≡ stop-line offset stop ⌝ }
     {
         Line {

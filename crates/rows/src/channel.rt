@@ -4,7 +4,7 @@ ghost use Prim.Native.Nat.{_≤_, _<_};
 ghost use Rattle.std.specs.Options.{Cases};
 ghost use Rattle.rows.specs.Limits.{channels};
 
-pub const CHANNELS: usize = 16;
+pub(crate) const CHANNELS: usize = 16;
 
 #[derive(Clone, Copy)]
 pub struct Channel {
