@@ -1,6 +1,8 @@
 -- The ranges of times and channels.
 --   last-time  the greatest time, in microseconds from 0
 --   channels   how many channels a row has, numbered from 0
+--   pair-on    the pair on a channel
+--   Timely     every number of the pairs is a time
 use mathlib.Core.List.{List}
 use Prim.Native.Nat.{ℕ, _≤_}
 use lib.ListN.{getD}
@@ -13,6 +15,9 @@ last-time = 4503599627370495
 abbrev pub channels : ℕ
 channels = 16
 
--- both numbers of every pair are times; past the last pair, 0 stands for both
+-- behind the last channel, 0 stands for both numbers
+abbrev pub pair-on : List Pair → ℕ → Pair
+pair-on pairs channel = getD pairs channel (record { first = 0; second = 0 })
+
 abbrev pub Timely : List Pair → Type 0
-Timely pairs = (k : ℕ) → (getD pairs k (record { first = 0; second = 0 }) .first ≤ last-time) × (getD pairs k (record { first = 0; second = 0 }) .second ≤ last-time)
+Timely pairs = (channel : ℕ) → (pair-on pairs channel .first ≤ last-time) × (pair-on pairs channel .second ≤ last-time)

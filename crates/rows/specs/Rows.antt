@@ -1,6 +1,5 @@
 -- What a row holds, and what setting a pair answers and leaves.
 --   nothing-set    the pairs of a fresh row
---   pair-on        the pair on a channel
 --   set-reasons    what a setting is refused for, in the order of the tests
 --   setting        its answer: nothing, or the refusal
 --   after-setting  the pairs after it
@@ -8,7 +7,7 @@ use mathlib.Core.Bool.{_||_}
 use mathlib.Core.List.{List, [], _∷_}
 use Prim.Native.Nat.{ℕ}
 use lib.Dec.{leb, ltb}
-use lib.ListN.{getD, set, replicate}
+use lib.ListN.{set, replicate}
 use Rattle.std.specs.declared.result.Result.{Result}
 use Rattle.std.specs.declared.result.Result.the-variants.{Ok, Err}
 use Rattle.rows.specs.declared.pair.Pair.{Pair}
@@ -23,10 +22,6 @@ unset = record { first = 1; second = 0 }
 
 abbrev pub nothing-set : List Pair
 nothing-set = replicate channels unset
-
--- behind the last channel, 0 stands for both numbers
-abbrev pub pair-on : List Pair → ℕ → Pair
-pair-on pairs channel = getD pairs channel (record { first = 0; second = 0 })
 
 abbrev pub set-reasons : ℕ → ℕ → ℕ → List Reason
 set-reasons channel first second =

@@ -1,7 +1,8 @@
 // How a row is made, set, read and cleared.
 ghost use mathlib.Core.Path.{_≡_};
 ghost use lib.ListN.{set};
-ghost use Rattle.rows.specs.Rows.{nothing-set, pair-on, setting, after-setting};
+ghost use Rattle.rows.specs.Limits.{pair-on};
+ghost use Rattle.rows.specs.Rows.{nothing-set, setting, after-setting};
 use super::Row;
 use crate::channel::CHANNELS;
 use crate::channel::Channel;
