@@ -35,9 +35,11 @@ line-with-break l = line-text l ++ (10 ∷ [])
 abbrev pub listing-text : List Line → List ℕ
 listing-text ls = joined line-with-break ls
 
+-- P refused as NoChannel, at offset 18: the line 18 P 15
 abbrev pub event-line : ℕ → Event → Line
 event-line offset e = record { offset = offset; letter = form-of (e .command) .letter; outcome = e .outcome }
 
+-- a P cut with 7 bytes left, at offset 73: the line 73 P 18 7
 abbrev pub stop-line : ℕ → Stop → Line
 stop-line offset stop = record { offset = offset; letter = shown-letter stop; outcome = Err (refusal-of stop) }
 
