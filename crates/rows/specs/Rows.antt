@@ -1,4 +1,5 @@
 -- What a row holds, and what setting a pair answers and leaves.
+--   unset          a pair that is not set
 --   nothing-set    the pairs of a fresh row
 --   set-reasons    what a setting is refused for, in the order of the tests
 --   setting        its answer: nothing, or the refusal

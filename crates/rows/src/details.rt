@@ -7,6 +7,8 @@ use std::fmt;
 pub enum Details {
     Empty,
     One(u64),
+    Two(u64, u64),
+    Three(u64, u64, u64),
 }
 
 pub impl fmt::Display for Details as DetailsDisplay {
@@ -16,6 +18,8 @@ pub impl fmt::Display for Details as DetailsDisplay {
         match self {
             Details::Empty => Ok(()),
             Details::One(n) => write!(f, " {n}"),
+            Details::Two(m, n) => write!(f, " {m} {n}"),
+            Details::Three(l, m, n) => write!(f, " {l} {m} {n}"),
         }
     }
 }

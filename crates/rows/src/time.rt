@@ -5,7 +5,7 @@ ghost use Rattle.std.specs.Options.{Cases};
 ghost use Rattle.rows.specs.Limits.{last-time};
 
 // 2^52 - 1, nearly 143 years.
-const LAST_TIME: u64 = 4_503_599_627_370_495;
+pub const LAST_TIME: u64 = 4_503_599_627_370_495;
 
 #[derive(Clone, Copy)]
 pub struct Time {
