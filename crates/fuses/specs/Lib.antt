@@ -1,0 +1,4 @@
+-- The definitions that the contracts cite.
+pub mod Fuses
+pub mod Sharing
+pub mod Sweeping
