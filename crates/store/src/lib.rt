@@ -1,0 +1,2 @@
+// The store: shards over a bank of clocks, and a row.
+pub mod store;
