@@ -9,9 +9,10 @@ use Rattle.std.specs.declared.option.Option.the-variants.{Some, None}
 use Rattle.std.specs.declared.result.Result.the-variants.{Ok}
 use Rattle.std.proofs.shelf.Lists.{at-drop-more, at-drop-all, joined-more, take-more}
 use Rattle.rows.specs.Exactly.{Exactly}
-use Rattle.rows.specs.Rows.{nothing-set}
+use Rattle.clocks.specs.declared.bank.Bank.{Ghosts as Bank}
+use Rattle.store.specs.States.{fresh-state}
 use Rattle.runs.specs.declared.command.Command.{Command}
-use Rattle.runs.specs.declared.command.Command.the-variants.{Set, Instant}
+use Rattle.runs.specs.declared.command.Command.the-variants.{Set, Instant, Query}
 use Rattle.runs.specs.declared.event.Answer.the-variants.{Done}
 use Rattle.runs.specs.declared.event.Event.{Event}
 use Rattle.runs.specs.Machine.{events-of}
@@ -25,6 +26,7 @@ use Rattle.listing.proofs.Ordered.{lines, same-lines}
 width-most : (c : Command) → form-of c .width ≤ 18
 width-most (Set channel first second) = omega arith
 width-most Instant = omega arith
+width-most (Query shard) = omega arith
 
 pub offset-most : (c : Command) (offset next i : ℕ) → next ≡ offset + form-of c .width → offset ≤ 18 * i → next ≤ 18 * (i + 1)
 offset-most c offset next i e h = omega (arith, width-most c)
@@ -57,11 +59,12 @@ some-event : Event
 some-event = record { command = Instant; outcome = Ok Done }
 
 -- the only listing of the file
-pub listed : (file text : List ℕ) (commands : List Command) (stop : Option Stop) (ls : List Line) → Exactly (Schedules file) (commands, stop) → In-order (events-of nothing-set commands) stop ls → text ≡ listing-text ls → Exactly (Lists file) text
-listed file text commands stop ls found ordered shown = (
-  record { all-commands = commands; end = stop; all-lines = ls; found = found .0; in-order = ordered; their-text = shown },
-  λ other o.
-      let same = found .1 (o .all-commands, o .end) (o .found) in
-      let there = subst (λ p. In-order (events-of nothing-set (p .0)) (p .1) (o .all-lines)) same (o .in-order) in
-      o .their-text ∙ ap listing-text (same-lines (events-of nothing-set commands) stop (o .all-lines) ls some-event there ordered) ∙ sym shown,
-)
+module _ {B : Type 0} (bank : Bank B) (clocks : B) where
+  pub listed : (file text : List ℕ) (commands : List Command) (stop : Option Stop) (ls : List Line) → Exactly (Schedules file) (commands, stop) → In-order (events-of bank (fresh-state bank clocks) commands) stop ls → text ≡ listing-text ls → Exactly (Lists bank clocks file) text
+  listed file text commands stop ls found ordered shown = (
+    record { all-commands = commands; end = stop; all-lines = ls; found = found .0; in-order = ordered; their-text = shown },
+    λ other o.
+        let same = found .1 (o .all-commands, o .end) (o .found) in
+        let there = subst (λ p. In-order (events-of bank (fresh-state bank clocks) (p .0)) (p .1) (o .all-lines)) same (o .in-order) in
+        o .their-text ∙ ap listing-text (same-lines (events-of bank (fresh-state bank clocks) commands) stop (o .all-lines) ls some-event there ordered) ∙ sym shown,
+  )

@@ -14,7 +14,8 @@ use Rattle.std.specs.declared.option.Option.{Option}
 use Rattle.std.specs.declared.option.Option.the-variants.{Some, None}
 use Rattle.std.specs.declared.result.Result.the-variants.{Err}
 use Rattle.rows.specs.Details.{space, spaced}
-use Rattle.rows.specs.Rows.{nothing-set}
+use Rattle.clocks.specs.declared.bank.Bank.{Ghosts as Bank}
+use Rattle.store.specs.States.{fresh-state}
 use Rattle.runs.specs.declared.command.Command.{Command}
 use Rattle.runs.specs.declared.event.Event.{Event}
 use Rattle.runs.specs.Machine.{events-of}
@@ -56,11 +57,11 @@ pub record In-order (es : List Event) (stop : Option Stop) (ls : List Line) : Ty
   pub each : (place : ℕ) (e : Event) (l : Line) → place < length es → getD ls place l ≡ event-line (offset-of es place) (getD es place e)
   pub last : drop (length es) ls ≡ stop-lines (offset-of es (length es)) stop
 
--- the commands of the file, run from a row with nothing set, have these lines, and these this text
-pub record Lists (file text : List ℕ) : Type 0 where
+-- the commands of the file, run over a store made over the clocks, have these lines, and these this text
+pub record Lists {B : Type 0} (bank : Bank B) (clocks : B) (file text : List ℕ) : Type 0 where
   pub all-commands : List Command
   pub end : Option Stop
   pub all-lines : List Line
   pub found : Schedules file (all-commands, end)
-  pub in-order : In-order (events-of nothing-set all-commands) end all-lines
+  pub in-order : In-order (events-of bank (fresh-state bank clocks) all-commands) end all-lines
   pub their-text : text ≡ listing-text all-lines

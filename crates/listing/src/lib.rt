@@ -8,23 +8,24 @@ pub mod line;
 pub mod lines;
 mod text;
 
+use clocks::bank::Bank;
 use lines::add_lines;
-use rows::row::Row;
 use runs::machine::run;
 use schedule::reader::read;
 use std::alloc::AllocError;
 use std::alloc::Global;
+use store::store::Store;
 use text::text_of;
 
-// The listing of a schedule, run from a fresh row.
-pub fn listing(heap: Global, bytes: &[u8]) -> Result<String, AllocError>
-    ensures { λ r. ⌜ made r (λ s. Exactly (Lists (now (bytes .entry))) (string-bytes s)) ⌝ }
+// The listing of a schedule, run over a fresh store.
+pub fn listing<B: Bank + Drop>(heap: Global, clocks: B, bytes: &[u8]) -> Result<String, AllocError>
+    ensures { λ r. ⌜ made r (λ s. Exactly (Lists B·Bank clocks (now (bytes .entry))) (string-bytes s)) ⌝ }
 {
     let mut commands = Vec::new(heap);
     let stop = read(bytes, &mut commands)?;
-    let mut row = Row::new();
+    let mut store = Store::new(clocks);
     let mut log = Vec::new(heap);
-    run(&mut row, &commands, &mut log)?;
+    run(&mut store, &commands, &mut log)?;
     let mut lines = Vec::new(heap);
     add_lines(&log, stop, &mut lines)?;
     text_of(heap, &lines)

@@ -7,6 +7,10 @@ pub enum Command {
         first: u64,
         second: u64,
     },
-    // Makes an instant: every pair returns to unset.
+    // Makes an instant: the clocks advance, and every pair returns to unset.
     Instant,
+    // Queries the clock of a shard.
+    Query {
+        shard: u8,
+    },
 }

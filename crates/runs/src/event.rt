@@ -14,6 +14,7 @@ use rows::refusal::RefusalPartialEq;
 #[derive(Clone, Copy, PartialEq, Eq, Debug)]
 pub enum Answer {
     Done,
+    Reading { earliest: u64, latest: u64 },
 }
 
 pub type Outcome = Result<Answer, Refusal>;
@@ -39,6 +40,7 @@ pub fn outcome_details(outcome: Outcome) -> Details
 {
     match outcome {
         Ok(Answer::Done) => Details::Empty,
+        Ok(Answer::Reading { earliest, latest }) => Details::Two(earliest, latest),
         Err(refusal) => refusal.details(),
     }
 }

@@ -15,7 +15,7 @@ use Rattle.std.specs.declared.result.Result.{Result}
 use Rattle.std.specs.declared.result.Result.the-variants.{Ok, Err}
 use Rattle.rows.specs.Exactly.{Exactly}
 use Rattle.runs.specs.declared.command.Command.{Command}
-use Rattle.runs.specs.declared.command.Command.the-variants.{Set, Instant}
+use Rattle.runs.specs.declared.command.Command.the-variants.{Set, Instant, Query}
 use Rattle.schedule.specs.declared.stop.Stop.{Stop}
 use Rattle.schedule.specs.declared.stop.Stop.the-variants.{NotALetter, CutShort, TooLong}
 use Rattle.schedule.specs.Encoding.{form-of, width-of, big-endian, operands, encoding, Encodable}
@@ -27,7 +27,7 @@ use Rattle.schedule.proofs.Widths.{width-known}
 parsed : ℕ → List ℕ → Option (Command × List ℕ)
 parsed letter bs =
     cond (eqb letter 80) (Some (Set (getD bs 0 0) (value (take 8 (drop 1 bs))) (value (take 8 (drop 8 (drop 1 bs)))), drop 8 (drop 8 (drop 1 bs))))
-    (cond (eqb letter 73) (Some (Instant, bs)) None)
+    (cond (eqb letter 73) (Some (Instant, bs)) (cond (eqb letter 78) (Some (Query (getD bs 0 0), drop 1 bs)) None))
 
 parsed-encoding : (c : Command) (rest : List ℕ) → Encodable c → parsed (form-of c .letter) (operands c ++ rest) ≡ Some (c, rest)
 unfolding parsed
@@ -39,6 +39,7 @@ parsed-encoding (Set channel first second) rest fits =
     ∙ (λ i. Some (Set channel (one .0 i) (value (take 8 (one .1 i))), drop 8 (one .1 i)))
     ∙ (λ i. Some (Set channel first (two .0 i), two .1 i))
 parsed-encoding Instant rest fits = refl
+parsed-encoding (Query shard) rest fits = refl
 
 same-found : (c d : Command) (r s : List ℕ) → Encodable c → Encodable d → encoding c ++ r ≡ encoding d ++ s → _≡_ {A = Command × List ℕ} (c, r) (d, s)
 same-found c d r s fc fd e =

@@ -11,7 +11,7 @@ use lib.Dec.{eqb}
 use Rattle.std.specs.declared.option.Option.{Option}
 use Rattle.std.specs.declared.option.Option.the-variants.{Some, None}
 use Rattle.runs.specs.declared.command.Command.{Command}
-use Rattle.runs.specs.declared.command.Command.the-variants.{Set, Instant}
+use Rattle.runs.specs.declared.command.Command.the-variants.{Set, Instant, Query}
 use Rattle.schedule.specs.declared.form.Form.{Form}
 
 -- P, the channel in one byte and two numbers in eight each
@@ -22,12 +22,17 @@ set-form = record { letter = 80; width = 18 }
 abbrev pub instant-form : Form
 instant-form = record { letter = 73; width = 1 }
 
+-- N, and the shard in one byte
+abbrev pub query-form : Form
+query-form = record { letter = 78; width = 2 }
+
 abbrev pub forms : List Form
-forms = set-form ∷ instant-form ∷ []
+forms = set-form ∷ instant-form ∷ query-form ∷ []
 
 abbrev pub form-of : Command → Form
 form-of (Set channel first second) = set-form
 form-of Instant = instant-form
+form-of (Query shard) = query-form
 
 -- the width of the first of some forms that has the letter
 abbrev pub width-among : List Form → ℕ → Option ℕ
@@ -47,6 +52,7 @@ big-endian (suc count) n = (n / 256 ^ count % 256) ∷ big-endian count n
 abbrev pub operands : Command → List ℕ
 operands (Set channel first second) = channel ∷ (big-endian 8 first ++ big-endian 8 second)
 operands Instant = []
+operands (Query shard) = shard ∷ []
 
 abbrev pub encoding : Command → List ℕ
 encoding c = form-of c .letter ∷ operands c
@@ -54,3 +60,4 @@ encoding c = form-of c .letter ∷ operands c
 abbrev pub Encodable : Command → Type 0
 Encodable (Set channel first second) = (channel < 2 ^ 8) × (first < 2 ^ 64) × (second < 2 ^ 64)
 Encodable Instant = Unit {0}
+Encodable (Query shard) = shard < 2 ^ 8

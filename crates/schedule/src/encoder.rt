@@ -7,6 +7,7 @@ ghost use Rattle.std.specs.Results.{Cases};
 ghost use Rattle.rows.specs.Lent.{Added, No-room};
 ghost use Rattle.schedule.specs.Encoding.{big-endian, encoding, Encodable};
 use crate::form::INSTANT;
+use crate::form::QUERY;
 use crate::form::SET;
 use runs::command::Command;
 use std::alloc::AllocError;
@@ -31,6 +32,12 @@ pub fn encode(command: &Command, bytes: &mut Vec<u8>) -> Result<(), AllocError>
         Command::Instant => {
             bytes.reserve(INSTANT.width)?;
             bytes.push_reserved(INSTANT.letter);
+            Ok(())
+        }
+        Command::Query { shard } => {
+            bytes.reserve(QUERY.width)?;
+            bytes.push_reserved(QUERY.letter);
+            bytes.push_reserved(*shard);
             Ok(())
         }
     }

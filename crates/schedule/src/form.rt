@@ -20,7 +20,12 @@ pub(crate) const INSTANT: Form = Form {
     width: 1,
 };
 
-const FORMS: [Form; 2] = [SET, INSTANT];
+pub(crate) const QUERY: Form = Form {
+    letter: b'N',
+    width: 2,
+};
+
+const FORMS: [Form; 3] = [SET, INSTANT, QUERY];
 
 pub fn form_of(command: &Command) -> Form
     ensures { λ r. ⌜ r ≡ form-of (now (command .entry)) ⌝ }
@@ -28,6 +33,7 @@ pub fn form_of(command: &Command) -> Form
     match command {
         Command::Set { .. } => SET,
         Command::Instant => INSTANT,
+        Command::Query { .. } => QUERY,
     }
 }
 

@@ -49,6 +49,7 @@ fn leading_command(bytes: &[u8]) -> Option<(Command, &[u8])>
             ))
         }
         [b'I', rest @ ..] => Some((Command::Instant, rest)),
+        [b'N', shard, rest @ ..] => Some((Command::Query { shard: *shard }, rest)),
         _ => None,
     }
 }

@@ -1,4 +1,4 @@
--- P: its letter, its channel and its two numbers, where there is room for 18 bytes.
+-- P and N: the letter and the operands, where there is room for them.
 use mathlib.Core.Path.{_≡_, sym, ap, _∙_}
 use mathlib.Core.List.{append-assoc}
 use native.Mathlib.Omega.{arith}
@@ -17,3 +17,6 @@ returns-in-Break-reserve c =
 
 pub returns-in-Continue-reserve : need.returns-in-Continue-reserve
 returns-in-Continue-reserve c = (search needs, search (needs, append-assoc))
+
+pub returns-in-Continue-reserve-3 : need.returns-in-Continue-reserve-3
+returns-in-Continue-reserve-3 c = (search needs, search (needs, append-assoc))
