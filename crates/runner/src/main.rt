@@ -1,6 +1,8 @@
 // The program: a schedule from standard input, its listing to standard output.
-use listing::listing;
+mod shards;
+
 use schedule::reader::LONGEST;
+use shards::listing_over_shards;
 use std::io;
 use std::io::Read;
 use std::io::Write;
@@ -12,6 +14,6 @@ fn main(rt: LibcRuntime) -> io::Result<()> {
     let heap = rt.alloc();
     let mut bytes = Vec::new(heap);
     rt.stdin().take(ENOUGH).read_to_end(&mut bytes)?;
-    let text = listing(heap, &bytes)?;
+    let text = listing_over_shards(heap, &bytes)?;
     rt.stdout().write_all(text.as_bytes())
 }
