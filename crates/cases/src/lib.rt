@@ -1,6 +1,21 @@
-// The worked cases of the pages, as tests.
+// The worked cases of the pages: proved of the definitions, and run as tests.
+ghost use Prim.Native.Nat.{_<_};
+ghost use Rattle.rows.specs.Limits.{channels};
+
+#[cfg(test)]
+mod clock_tests;
+pub mod silent;
+pub mod worked;
+
 #[cfg(test)]
 mod tests {
+    use clocks::bank::Bank;
+    use clocks::joined::Joined;
+    use clocks::joined::JoinedBank;
+    use clocks::reference::Reference;
+    use clocks::reference::ReferenceClock;
+    use clocks::single::Single;
+    use clocks::single::SingleBank;
     use listing::listing;
     use rows::channel::Channel;
     use rows::pair::Pair;
@@ -20,10 +35,40 @@ mod tests {
     use std::alloc::Global;
     use std::test::*;
 
-    // The listing of some bytes is this text.
-    fn shows(heap: Global, bytes: &[u8], text: &str) -> Result<(), Fail> {
-        let found = listing(heap, bytes)?;
+    type Two = Joined<Single<Reference>, Single<Reference>>;
+
+    type Ten = Joined<Joined<Joined<Two, Two>, Joined<Two, Two>>, Two>;
+
+    fn reference(channel: u8) -> Single<Reference>
+        requires { ⌜ channel < channels ⌝ }
+    {
+        Single::new(Reference::new(channel).unwrap())
+    }
+
+    // References on channels 0 and 3.
+    fn two() -> Two {
+        Joined::new(reference(0), reference(3))
+    }
+
+    fn ten() -> Ten {
+        let first = Joined::new(two(), two());
+        let second = Joined::new(two(), two());
+        Joined::new(Joined::new(first, second), two())
+    }
+
+    // The listing of some bytes over the clocks is this text.
+    fn shows_over<B: Bank + Drop>(
+        heap: Global,
+        clocks: B,
+        bytes: &[u8],
+        text: &str,
+    ) -> Result<(), Fail> {
+        let found = listing(heap, clocks, bytes)?;
         check_eq(found.as_str(), text)
+    }
+
+    fn shows(heap: Global, bytes: &[u8], text: &str) -> Result<(), Fail> {
+        shows_over(heap, two(), bytes, text)
     }
 
     #[test]
@@ -55,7 +100,7 @@ mod tests {
     fn longest_files(rt: LibcRuntime) -> Result<(), Fail> {
         let heap = rt.alloc();
         shows(heap, &instants(heap, 65537)?, "0 - 21\n")?;
-        let text = listing(heap, &instants(heap, 65536)?)?;
+        let text = listing(heap, two(), &instants(heap, 65536)?)?;
         check_eq(text.as_str().lines().count(), 65536)?;
         check(text.as_str().ends_with("\n65535 I 0\n"))
     }
@@ -80,6 +125,26 @@ mod tests {
         let mut bytes = Vec::new(heap);
         encode(&command, &mut bytes)?;
         shows(heap, &bytes, text)
+    }
+
+    #[test]
+    fn queries(rt: LibcRuntime) -> Result<(), Fail> {
+        let heap = rt.alloc();
+        shows(heap, b"N\x00N\x01", "0 N 9 1 0 0\n2 N 9 1 3 0\n")?;
+        shows(heap, b"N\x02N\xff", "0 N 3\n2 N 3\n")?;
+        shows(heap, b"IN", "0 I 0\n1 N 18 1\n")?;
+        shows_over(heap, ten(), b"N\x07N\x08", "0 N 9 1 3 0\n2 N 3\n")
+    }
+
+    // A pair is read at its instant only.
+    #[test]
+    fn a_reading_lasts_one_instant(rt: LibcRuntime) -> Result<(), Fail> {
+        let heap = rt.alloc();
+        shows(
+            heap,
+            b"P\x03\x00\x00\x00\x00\x00\x00\x00\x64\x00\x00\x00\x00\x00\x00\x00\x6eN\x01IN\x01N\x00IN\x01",
+            "0 P 0\n18 N 9 1 3 0\n20 I 0\n21 N 0 100 110\n23 N 9 1 0 0\n25 I 0\n26 N 9 1 3 0\n",
+        )
     }
 
     #[test]
