@@ -1,7 +1,7 @@
 -- A holdover adopts the reading of the clock below where that is narrower than its own interval.
 --   choose            what comes of the reading below, of the own interval, or of neither
 --   adopted-with      the base and the reading where the reading below is adopted
---   own-with         the base and the reading where the own interval is read
+--   own-with          the base and the reading where the own interval is read
 --   lost-with         the base and the reading with neither
 --   held-over         the base and the reading after an instant
 --   apart             how far two times are apart
