@@ -1,4 +1,6 @@
 // The worked cases of the pages: proved of the definitions, and run as tests.
+#![tactic(auto)]
+
 ghost use Rattle.std.specs.Prelude.{◌<◌};
 ghost use Rattle.rows.specs.Limits.{channels};
 

@@ -1,4 +1,6 @@
 // The listing of a schedule: a line for each command, and their text.
+#![tactic(auto)]
+
 ghost use Rattle.std.specs.Prelude.{IfOk, string_bytes};
 ghost use Rattle.rows.specs.Exactly.{Exactly};
 ghost use Rattle.listing.specs.Lines.{Lists};

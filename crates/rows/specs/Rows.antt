@@ -4,7 +4,7 @@
 --   set_reasons    what a setting is refused for, in the order of the tests
 --   setting        its answer: nothing, or the refusal
 --   after_setting  the pairs after it
-use Rattle.std.specs.Prelude.{ℕ, ◌||◌, List, [], ◌∷◌, set, replicate, Ok, Err, Result, nat_le, nat_lt, slice_set}
+use Rattle.std.specs.Prelude.{ℕ, ◌||◌, List, [], ◌∷◌, replicate, Ok, Err, Result, nat_le, nat_lt, slice_set}
 use Rattle.rows.specs.declared.pair.Pair.{Pair}
 use Rattle.rows.specs.declared.refusal.Refusal.{Refusal}
 use Rattle.rows.specs.declared.refusal.Refusal.TheVariants.{NoChannel, BadPair}

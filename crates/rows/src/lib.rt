@@ -1,4 +1,6 @@
 // Times, channels, rates, the row of pairs, clock faults, and why a command is turned away.
+#![tactic(auto)]
+
 pub mod channel;
 pub mod details;
 pub mod fault;

@@ -1,4 +1,6 @@
 // The program: a schedule from standard input, its listing to standard output.
+#![tactic(auto)]
+
 mod shards;
 
 use schedule::reader::LONGEST;

@@ -3,5 +3,5 @@ use Rattle.std.proofs.Common.{arith}
 use Rattle.rows.proofs.Times.{timely_set}
 use Rattle.rows.proofs.row.Row.put.Goals as goal
 
-pub invariant-of-self : goal.invariant-of-self
-invariant-of-self c = (timely_set c.args.self.now.pairs _ _ c.args.self.now.within (omega arith) (omega arith), tt)
+pub invariant_of-self : goal.invariant_of-self
+invariant_of-self c = record { within = timely_set c.args.self.now.pairs _ _ c.args.self.now.within (omega arith) (omega arith) }
