@@ -1,7 +1,10 @@
 -- The definitions that the contracts cite.
 pub mod Banks
+pub mod BanksLemmas
+pub mod Following
 pub mod History
 pub mod Hulls
+pub mod HullsLemmas
 pub mod Intervals
 pub mod Meaning
 pub mod References

@@ -1,6 +1,7 @@
 // How a hull is made, advanced and read.
 ghost use Rattle.std.specs.Prelude.{◌≡◌};
 ghost use Rattle.clocks.specs.Hulls.{kept_over, read_over, hull_made, hull_next, hull_truth, NeverFalls};
+ghost use Rattle.clocks.specs.HullsLemmas.{hull_keeps};
 
 use super::Hull;
 use crate::clock::Clock;
@@ -64,6 +65,8 @@ impl<C: Clock> Clock for Hull<C> {
     ghost reading = { λ h. h.reading };
 
     ghost truth = { hull_truth C.Clock };
+
+    ghost keeps = { hull_keeps (record { fresh = C.fresh; next = C.next; reading = C.reading; truth = C.truth }) C.keeps };
 
     fn restart(&mut self) {
         self.below.restart();

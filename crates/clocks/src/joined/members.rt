@@ -1,6 +1,7 @@
 // How two banks are joined, advanced and read.
 ghost use Rattle.std.specs.Prelude.{◌≡◌};
 ghost use Rattle.clocks.specs.Banks.{joined_fresh, joined_next, joined_reading, joined_truth, Joins};
+ghost use Rattle.clocks.specs.BanksLemmas.{joined_keeps};
 
 use super::Joined;
 use crate::bank::{Bank, unreached};
@@ -53,6 +54,8 @@ impl<A: Bank, B: Bank> Bank for Joined<A, B> {
     ghost reading = { joined_reading A.Bank B.Bank };
 
     ghost truth = { joined_truth A.Bank B.Bank };
+
+    ghost keeps = { joined_keeps (record { size = A.size; fresh = A.fresh; next = A.next; reading = A.reading; truth = A.truth }) (record { size = B.size; fresh = B.fresh; next = B.next; reading = B.reading; truth = B.truth }) A.keeps B.keeps };
 
     fn count(&self) -> u8 {
         self.count

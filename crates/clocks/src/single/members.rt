@@ -1,6 +1,7 @@
 // How a bank of one is made, advanced and read.
 ghost use Rattle.std.specs.Prelude.{◌≡◌};
 ghost use Rattle.clocks.specs.Banks.{single_made, single_next, single_reading, single_truth};
+ghost use Rattle.clocks.specs.BanksLemmas.{single_keeps};
 
 use super::Single;
 use crate::bank::{Bank, unreached};
@@ -30,6 +31,8 @@ impl<C: Clock> Bank for Single<C> {
     ghost reading = { single_reading C.Clock };
 
     ghost truth = { single_truth C.Clock };
+
+    ghost keeps = { single_keeps (record { fresh = C.fresh; next = C.next; reading = C.reading; truth = C.truth }) C.keeps };
 
     fn count(&self) -> u8 {
         1

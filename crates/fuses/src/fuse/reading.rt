@@ -2,6 +2,7 @@
 ghost use Rattle.std.specs.Prelude.{◌≡◌};
 ghost use Rattle.fuses.specs.Fuses.{need, usual_tolerance, members, fuse_made, fuse_next, fuse_truth, Means, Tolerates};
 ghost use Rattle.fuses.specs.Sharing.{intervals_of, fused};
+ghost use Rattle.fuses.specs.FusesLemmas.{fuse_keeps};
 
 use super::Fuse;
 use super::gather::gather;
@@ -92,6 +93,8 @@ impl<B: Bank> Clock for Fuse<B> {
     ghost reading = { λ f. f.reading };
 
     ghost truth = { fuse_truth B.Bank };
+
+    ghost keeps = { fuse_keeps (record { size = B.size; fresh = B.fresh; next = B.next; reading = B.reading; truth = B.truth }) B.keeps };
 
     fn restart(&mut self) {
         self.bank.restart();

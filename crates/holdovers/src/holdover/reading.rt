@@ -3,6 +3,7 @@ ghost use Rattle.std.specs.Prelude.{◌≡◌, ◌≤◌, IfSome};
 ghost use Rattle.rows.specs.Limits.{last_time};
 ghost use Rattle.holdovers.specs.Bases.{count_on};
 ghost use Rattle.holdovers.specs.Holdovers.{holdover_fresh, holdover_next, holdover_truth, Answers};
+ghost use Rattle.holdovers.specs.HoldoversLemmas.{holdover_keeps};
 
 use super::Holdover;
 use crate::held::held_over;
@@ -55,6 +56,8 @@ impl<C: Clock> Clock for Holdover<C> {
     ghost reading = { λ h. h.reading };
 
     ghost truth = { holdover_truth C.Clock };
+
+    ghost keeps = { holdover_keeps (record { fresh = C.fresh; next = C.next; reading = C.reading; truth = C.truth }) C.keeps };
 
     fn restart(&mut self) {
         self.below.restart();

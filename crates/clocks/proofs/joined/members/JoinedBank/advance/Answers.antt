@@ -1,6 +1,6 @@
 -- Both banks go on, and the counts stay.
-use Rattle.clocks.proofs.Banks.{same_joined}
+use Rattle.clocks.specs.BanksLemmas.{same_joined}
 use Rattle.clocks.proofs.joined.members.JoinedBank.advance.Goals as goal
 
 pub returns : goal.returns
-returns g c = same_joined _ _ _ _ _ _ _ _ _ _ c.advance-both.ensures.first c.advance-both.ensures.second
+returns g c = same_joined _ _ _ _ _ _ _ _ _ _ c.advance_both.ensures.first c.advance_both.ensures.second

@@ -1,6 +1,6 @@
 -- Both banks go on, and the counts stay.
-use Rattle.clocks.proofs.Banks.{same_joined}
+use Rattle.clocks.specs.BanksLemmas.{same_joined}
 use Rattle.clocks.proofs.joined.members.JoinedBank.restart.Goals as goal
 
 pub returns : goal.returns
-returns g c = same_joined _ _ _ _ _ _ _ _ _ _ c.restart-both.ensures.first c.restart-both.ensures.second
+returns g c = same_joined _ _ _ _ _ _ _ _ _ _ c.restart_both.ensures.first c.restart_both.ensures.second

@@ -1,3 +1,0 @@
--- The lemmas that the proofs share.
-pub mod Anchors
-pub mod Holdovers
