@@ -12,7 +12,7 @@ loop-command-preserved g c =
     let i = c.loop-command.command-index in
     let taken = c.loop-command-test.true in
     let did = c.perform.ensures in (
-      events_more bank _ _ cs i _ taken did.after (vec_items c.loop-command.log) (vec_items c.push-reserved.new.self) _ did.event c.push-reserved.ensures.items ∙ c.loop-command.invariant.0,
+      events_more bank _ _ cs i _ taken did.after (vec_items c.loop-command.log) (vec_items c.push_reserved.new.self) _ did.event c.push_reserved.ensures.items ∙ c.loop-command.invariant.0,
       state_more bank _ _ cs i _ taken did.after ∙ c.loop-command.invariant.1,
       omega arith,
       omega arith,

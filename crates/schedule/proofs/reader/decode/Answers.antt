@@ -5,8 +5,8 @@ use Rattle.schedule.proofs.Fronts.{stopped}
 use Rattle.schedule.proofs.Unique.{alone}
 use Rattle.schedule.proofs.reader.decode.Goals as goal
 
-pub returns-in-default : goal.returns-in-default
-returns-in-default c =
+pub returns-in_default : goal.returns-in_default
+returns-in_default c =
     let none : length c.args.bytes.now ≡ 0 = search rules in
     alone c.args.bytes.now None (nil_from_length c.args.bytes.now none)
 
@@ -17,4 +17,4 @@ pub returns-in-None : goal.returns-in-None
 returns-in-None c =
     let bytes = c.args.bytes.now in
     let some : 1 ≤ length bytes = search rules in
-    alone bytes _ (stopped bytes _ some c.in-None.ensures c.stop-at.ensures)
+    alone bytes _ (stopped bytes _ some c.in-None.ensures c.stop_at.ensures)

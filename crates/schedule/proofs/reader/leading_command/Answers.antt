@@ -3,22 +3,22 @@ use Rattle.std.proofs.Common.{◌≡◌, ◌-◌, ◌≤◌, ◌∷◌, length, 
 use Rattle.schedule.proofs.Fronts.{after_one, after_two, set_front, set_cut}
 use Rattle.schedule.proofs.reader.leading_command.Goals as goal
 
-pub returns-in-err-second : goal.returns-in-err-second
-returns-in-err-second c =
+pub returns-in_err-second : goal.returns-in_err-second
+returns-in_err-second c =
     let bytes = c.args.bytes.now in
     let letter : get_or bytes 0 0 ≡ 80 = search rules in
     let long : 2 ≤ length bytes = search rules in
-    rw c.from-residual-in-err-second.ensures
-    (set_cut bytes long letter _ _ c.in-ok-first.ensures.1 c.in-err-second.ensures)
+    rw c.from_residual-in_err-second.ensures
+    (set_cut bytes long letter _ _ c.in_ok-first.ensures.1 c.in_err-second.ensures)
 
-pub returns-in-ok-second : goal.returns-in-ok-second
-returns-in-ok-second c =
+pub returns-in_ok-second : goal.returns-in_ok-second
+returns-in_ok-second c =
     let bytes = c.args.bytes.now in
     let letter : get_or bytes 0 0 ≡ 80 = search rules in
     let long : 2 ≤ length bytes = search rules in
-    let first = c.in-ok-first.ensures in
-    let second = c.in-ok-second.ensures in
-    (((c.type-inv.bytes 1).fits, first.0, second.0), set_front bytes long letter _ _ first.1 _ _ second.1)
+    let first = c.in_ok-first.ensures in
+    let second = c.in_ok-second.ensures in
+    (((c.type_inv.bytes 1).fits, first.0, second.0), set_front bytes long letter _ _ first.1 _ _ second.1)
 
 pub returns-in-73 : goal.returns-in-73
 returns-in-73 c =
@@ -32,4 +32,4 @@ returns-in-78 c =
     let bytes = c.args.bytes.now in
     let letter : get_or bytes 0 0 ≡ 78 = search rules in
     let long : 2 ≤ length bytes = search rules in
-    ((c.type-inv.bytes 1).fits, after_two bytes long ∙ ap (λ b. b ∷ get_or bytes 1 0 ∷ take (length bytes - 2) (drop 2 bytes)) letter)
+    ((c.type_inv.bytes 1).fits, after_two bytes long ∙ ap (λ b. b ∷ get_or bytes 1 0 ∷ take (length bytes - 2) (drop 2 bytes)) letter)

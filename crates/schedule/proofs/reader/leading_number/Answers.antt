@@ -8,5 +8,5 @@ pub returns : goal.returns
 returns c =
     let bytes = c.args.bytes.now in
     let long : 8 ≤ length bytes = search rules in
-    let same : c.from-be-bytes.result ≡ spelt bytes 0 8 = omega (arith, c.from-be-bytes.ensures) in
-    (c.from-be-bytes.type-inv, rw (same, take_rest bytes 8) (sym (begins 8 bytes long (λ i. (c.type-inv.bytes i).fits))))
+    let same : c.from_be_bytes.result ≡ spelt bytes 0 8 = omega (arith, c.from_be_bytes.ensures) in
+    (c.from_be_bytes.type_inv, rw (same, take_rest bytes 8) (sym (begins 8 bytes long (λ i. (c.type_inv.bytes i).fits))))

@@ -6,7 +6,7 @@ use Rattle.schedule.proofs.Unique.{alone_found}
 use Rattle.schedule.proofs.reader.read.Goals as goal
 
 -- what was read at the front of the rest
-front : (c : goal.After-push-reserved) → Reads c.loop-next.rest.now (Some (Ok (c.in-Ok.command, c.in-Ok.after.now)))
+front : (c : goal.After-push_reserved) → Reads c.loop-next.rest.now (Some (Ok (c.in-Ok.command, c.in-Ok.after.now)))
 front c = rw c.in-Ok.is at c.in-Some.ensures.exact.0
 
 pub loop-next-smaller : goal.loop-next-smaller
@@ -18,7 +18,7 @@ loop-next-preserved c =
     let command = c.in-Ok.command in (
       (
         old.0 ++ command ∷ [],
-        added_more _ old.0 _ _ command old.1 c.push-reserved.ensures.items,
+        added_more _ old.0 _ _ command old.1 c.push_reserved.ensures.items,
         one_more _ old.0 _ _ _ command old.2 (front c) refl,
       ),
       omega (arith, shorter _ _ command (front c), c.loop-next.invariant.1),
@@ -38,5 +38,5 @@ returns c =
     let old = c.loop-next.invariant.0 in (
       old.0,
       old.1 ∙ ap (λ l. l ++ old.0) c.reserve.ensures.items,
-      alone_found c.args.bytes.now (old.0, None) (ended _ old.0 _ _ old.2 c.in-default.ensures.exact.0 (omega (arith, c.if-bytes-gt-LONGEST.false))),
+      alone_found c.args.bytes.now (old.0, None) (ended _ old.0 _ _ old.2 c.in_default.ensures.exact.0 (omega (arith, c.if-bytes-gt-LONGEST.false))),
     )

@@ -19,14 +19,14 @@ front xs ys n e = let same : n - 0 ≡ n = omega arith in ap (λ k. take k xs) s
 both : (is : List Interval) (begins ends : List ℕ) → begins ≡ map (λ i. i.earliest) is → ends ≡ map (λ i. i.latest) is → length begins ≡ length ends
 both is begins ends b e = ap length b ∙ length-map is (λ i. i.earliest) ∙ sym (length-map is (λ i. i.latest)) ∙ sym (ap length e)
 
-pub fuse-readings-requires : needed.fuse-readings-requires
-fuse-readings-requires g c =
+pub fuse_readings-requires : needed.fuse_readings-requires
+fuse_readings-requires g c =
     let is = intervals_of (members g.B.Bank c.args.bank.now) in
     let found = c.gather-readings in
     let b = front _ _ found.result.count found.ensures.begins in
     let e = front _ _ found.result.count found.ensures.ends in
     record {
-      need = omega (arith, need_some (g.B.Bank.size c.args.bank.now) c.args.tolerated, c.need-over.ensures);
+      need = omega (arith, need_some (g.B.Bank.size c.args.bank.now) c.args.tolerated, c.need_over.ensures);
       few = simp length-take (omega (arith, found.ensures.few));
       same = both is _ _ b e;
       begins_timely = subst TimelyAll (sym b) (begins_timely is);
@@ -44,6 +44,6 @@ returns g c =
     let same : shared_by (map (λ i. i.earliest) is) (map (λ i. i.latest) is) ≡ sharing is = fun_ext (shared_is is) in
     let begins = take (found.result.count - 0) found.result.begins in
     let ends = take (found.result.count - 0) found.result.ends in
-    let told : Fuses n (shared_by begins ends) c.fuse-readings.result = subst (λ k. Fuses k (shared_by begins ends) c.fuse-readings.result) c.need-over.ensures c.fuse-readings.ensures in
-    let swept : Fuses n (shared_by (map (λ i. i.earliest) is) (map (λ i. i.latest) is)) c.fuse-readings.result = subst₂ (λ x y. Fuses n (shared_by x y) c.fuse-readings.result) b e told in
-    only n (sharing is) c.fuse-readings.result (fused n is) (subst (λ f. Fuses n f c.fuse-readings.result) same swept) (fused_right is n (need_some (g.B.Bank.size bank) c.args.tolerated))
+    let told : Fuses n (shared_by begins ends) c.fuse_readings.result = subst (λ k. Fuses k (shared_by begins ends) c.fuse_readings.result) c.need_over.ensures c.fuse_readings.ensures in
+    let swept : Fuses n (shared_by (map (λ i. i.earliest) is) (map (λ i. i.latest) is)) c.fuse_readings.result = subst₂ (λ x y. Fuses n (shared_by x y) c.fuse_readings.result) b e told in
+    only n (sharing is) c.fuse_readings.result (fused n is) (subst (λ f. Fuses n f c.fuse_readings.result) same swept) (fused_right is n (need_some (g.B.Bank.size bank) c.args.tolerated))

@@ -19,7 +19,7 @@ loop-k-preserved c =
     let count = begun_count ends k time in
     let rest = lowest_of goal (sweep (begun_count ends) (k + 1) (drop (k + 1) begins)) in
     let next : lowest_of goal (sweep (begun_count ends) k (drop k begins)) ≡ cond (leb goal count) (min time rest) rest = at_next (lowest_of goal) (begun_count ends) begins k c.loop-k-test.true in
-    let shared : c.shared-at-begin.result ≡ count = omega arith in
+    let shared : c.shared_at_begin.result ≡ count = omega arith in
     let now_is : c.lower-lowest.result ≡ cond (leb goal count) (min time c.loop-k.lowest) c.loop-k.lowest = c.lower-lowest.ensures ∙ ap (λ n. cond (leb goal n) (min time c.loop-k.lowest) c.loop-k.lowest) shared in (
       ap (λ n. min n rest) now_is ∙ lower_more (leb goal count) time c.loop-k.lowest rest ∙ ap (λ n. min c.loop-k.lowest n) (sym next) ∙ c.loop-k.invariant.0,
       rw now_is (lower_within (leb goal count) time c.loop-k.lowest c.loop-k.invariant.1),
