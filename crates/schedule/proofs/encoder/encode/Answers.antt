@@ -6,13 +6,13 @@ use Rattle.schedule.specs.Encoding.{encoding}
 use Rattle.schedule.proofs.Widths.{width_is}
 use Rattle.schedule.proofs.encoder.encode.Goals as goal
 
-pub returns-in_err-reserve : goal.returns-in_err-reserve
-returns-in_err-reserve c =
+pub returns-in_err-reserve-in-Set : goal.returns-in_err-reserve-in-Set
+returns-in_err-reserve-in-Set c =
     let wide : length (encoding c.args.command.now) ≡ 18 = ap (λ x. length (encoding x)) c.in-Set.is ∙ sym (width_is (Set c.in-Set.channel c.in-Set.first c.in-Set.second)) in
-    MatchResult-from_err _ _ _ c.from_residual.ensures.0 (λ _. (omega (arith, wide, c.in_err-reserve.ensures.full), c.reserve.ensures.items))
+    MatchResult-from_err _ _ _ c.from_residual.ensures.0 (λ _. (omega (arith, wide, c.in_err-reserve-in-Set.ensures.full), c.reserve.ensures.items))
 
-pub returns-in_ok-reserve : goal.returns-in_ok-reserve
-returns-in_ok-reserve c = (search rules, search (rules, append_assoc))
+pub returns-in_ok-reserve-in-Set : goal.returns-in_ok-reserve-in-Set
+returns-in_ok-reserve-in-Set c = (search rules, search (rules, append_assoc))
 
-pub returns-in_ok-reserve-3 : goal.returns-in_ok-reserve-3
-returns-in_ok-reserve-3 c = (search rules, search (rules, append_assoc))
+pub returns-in_ok-reserve-in-Query : goal.returns-in_ok-reserve-in-Query
+returns-in_ok-reserve-in-Query c = (search rules, search (rules, append_assoc))
