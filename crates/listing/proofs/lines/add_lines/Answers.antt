@@ -9,7 +9,7 @@ loop-event-preserved c =
     let events = c.args.events.now in
     let i = c.loop-event.event-index in
     let offset = c.loop-event.offset in
-    let next = c.past_offset in (
+    let next = c.past-offset in (
       lines_more events c.args.stop i _ offset next.result c.of_event.result (vec_items c.loop-event.lines) _ c.loop-event-test.true next.ensures c.of_event.ensures c.push_reserved.ensures.items
           ∙ c.loop-event.invariant.0,
       offset_most _ offset next.result i next.ensures c.loop-event.invariant.1,
