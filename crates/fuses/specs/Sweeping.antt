@@ -6,7 +6,7 @@
 --   ended_count   how many share a time at which a reading ends
 --   TimelyAll     every number is a time
 use Rattle.std.specs.Prelude.{ℕ, ◌+◌, ◌-◌, ◌≤◌, cond, List, [], ◌∷◌, nat_lt}
-use Rattle.std.specs.List.{AllByRecursion as All}
+use Rattle.std.specs.List.{AllByRecursion}
 use Rattle.rows.specs.Limits.{last_time}
 use Rattle.fuses.specs.Sharing.{Sample}
 
@@ -33,4 +33,4 @@ abbrev pub ended_count : List ℕ → ℕ → ℕ → ℕ
 ended_count begins before time = count_below begins (time + 1) - before
 
 abbrev pub TimelyAll : List ℕ → Type 0
-TimelyAll numbers = All (λ n. n ≤ last_time) numbers
+TimelyAll numbers = AllByRecursion (λ n. n ≤ last_time) numbers

@@ -2,7 +2,7 @@
 use Rattle.std.proofs.Common.{◌≡◌, ℕ, zero, suc, ◌+◌, ◌*◌, ◌/◌, ◌%◌, ◌^◌, ◌<◌, ◌≤◌, List, [], ◌∷◌, ◌++◌, length, get_or, take, drop, sym, refl, ap, ◌∙◌, append_assoc, mod-eq_of_lt, mul_assoc, mul_comm, add-mul, pow-suc, div-one, arith, take-append-drop}
 use native.Mathlib.Nat.{mod-one, one-le-pow}
 use lib.Arith.{digits_lt, digits_div, digits_mod, mod-mul}
-use Rattle.std.specs.List.{AllByRecursion as All}
+use Rattle.std.specs.List.{AllByRecursion}
 use Rattle.std.proofs.lemmas.List.{take_at, drop_at, drop_more, length-take-le, length-drop, take_more}
 use Rattle.schedule.specs.Encoding.{big_endian}
 
@@ -16,7 +16,7 @@ unfolding big_endian
 length_big_endian zero n = refl
 length_big_endian (suc k) n = ap suc (length_big_endian k n)
 
-value_lt : (ds : List ℕ) → All (λ d. d < 256) ds → value ds < 256 ^ length ds
+value_lt : (ds : List ℕ) → AllByRecursion (λ d. d < 256) ds → value ds < 256 ^ length ds
 value_lt [] u = omega arith
 value_lt (d ∷ ds) u = rw (pow-suc 256 (length ds), mul_comm (256 ^ length ds) 256) (digits_lt u.0 (value_lt ds u.1))
 
@@ -24,7 +24,7 @@ regroup : (q d p w : ℕ) → q * (p * 256) + (d * p + w) ≡ (q * 256 + d) * p 
 regroup q d p w = omega (arith, add-mul (q * 256) d p, mul_assoc q 256 p, ap (λ x. q * x) (mul_comm 256 p))
 
 -- bytes are those of the number that they spell, whatever stands before it
-spelled_after : (q : ℕ) (ds : List ℕ) → All (λ d. d < 256) ds → big_endian (length ds) (q * 256 ^ length ds + value ds) ≡ ds
+spelled_after : (q : ℕ) (ds : List ℕ) → AllByRecursion (λ d. d < 256) ds → big_endian (length ds) (q * 256 ^ length ds + value ds) ≡ ds
 unfolding big_endian
 spelled_after q [] u = refl
 spelled_after q (d ∷ ds) u =
@@ -58,7 +58,7 @@ value_spelt bs i (suc k) h =
     let rest : length (take k (drop (i + 1) bs)) ≡ k = length-take-le k (drop (i + 1) bs) (omega (arith, length-drop (i + 1) bs)) in
     ap (λ l. value (take (suc k) l)) (drop_more bs i 0 inside) ∙ (λ j. get_or bs i 0 * 256 ^ rest j + value_spelt bs (i + 1) k (omega arith) j)
 
-under : (bs : List ℕ) (k : ℕ) → ((i : ℕ) → get_or bs i 0 < 256) → All (λ d. d < 256) (take k bs)
+under : (bs : List ℕ) (k : ℕ) → ((i : ℕ) → get_or bs i 0 < 256) → AllByRecursion (λ d. d < 256) (take k bs)
 under bs zero u = tt
 under [] (suc k) u = tt
 under (b ∷ bs) (suc k) u = (u 0, under bs k (λ i. u (suc i)))

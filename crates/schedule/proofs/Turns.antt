@@ -1,7 +1,7 @@
 -- What one more command, and the end, make of what has been read.
 use Rattle.std.proofs.Common.{◌≡◌, ℕ, ◌<◌, ◌≤◌, List, [], ◌∷◌, ◌++◌, length, Some, Ok, Err, MatchBool, Option, sym, ap, ◌∙◌, append_assoc, arith, length-append, le-leb}
 use mathlib.Core.Path.{subst⁻¹}
-use Rattle.std.specs.List.{flat_map, AllByRecursion as All}
+use Rattle.std.specs.List.{flat_map, AllByRecursion}
 use Rattle.std.specs.Option.{option_map}
 use Rattle.std.proofs.slice.Lists.{all_by_recursion_push}
 use Rattle.std.proofs.lemmas.List.{flat_map_more}
@@ -13,7 +13,7 @@ use Rattle.schedule.specs.Reading.{Reads, Splits, longest, Schedules}
 
 -- the bytes are the commands read so far and the rest
 abbrev pub Sofar : List ℕ → List Command → List ℕ → Type 0
-Sofar bs cs rest = (bs ≡ flat_map encoding cs ++ rest) × All Encodable cs
+Sofar bs cs rest = (bs ≡ flat_map encoding cs ++ rest) × AllByRecursion Encodable cs
 
 pub shorter : (rest after : List ℕ) (c : Command) → Reads rest (Some (Ok (c, after))) → length after < length rest
 shorter rest after c x = omega (arith, ap length x.1, length-append (encoding c) after)

@@ -4,7 +4,7 @@
 --   Schedules  what stands in a whole file: its commands, and the stop where it was not read to its end
 use Rattle.std.specs.Prelude.{◌≡◌, ℕ, ◌<◌, List, [], ◌∷◌, ◌++◌, length, IfSome, Some, None, Ok, Err, MatchBool, Option, Result, MatchOption, nat_le}
 use Rattle.std.specs.Borrow.{Bor}
-use Rattle.std.specs.List.{flat_map, AllByRecursion as All}
+use Rattle.std.specs.List.{flat_map, AllByRecursion}
 use Rattle.std.specs.Option.{option_map}
 use Rattle.runs.specs.declared.command.Command.{Command}
 use Rattle.schedule.specs.declared.stop.Stop.{Stop}
@@ -38,7 +38,7 @@ NoWholeCommand (letter ∷ rest) = IfSome (width_of letter) (λ width. length (l
 pub record Splits (bytes : List ℕ) (found : List Command × Option Stop) : Type 0 where
   pub tail : List ℕ
   pub whole : bytes ≡ flat_map encoding found.0 ++ tail
-  pub each : All Encodable found.0
+  pub each : AllByRecursion Encodable found.0
   pub ends : Reads tail (option_map Err found.1)
 
 -- the most bytes that a file may have
