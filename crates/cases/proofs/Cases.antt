@@ -5,7 +5,7 @@ use Rattle.rows.specs.Limits.{last_time}
 use Rattle.clocks.specs.Hulls.{crossed, hull_step}
 use Rattle.clocks.specs.Intervals.{Reading, span, span_or}
 use Rattle.clocks.specs.References.{unheard_on}
-use Rattle.clocks.specs.Spans.{span_is, span_backwards}
+use Rattle.clocks.specs.Lemmas.Spans.{span_is, span_backwards}
 use Rattle.fuses.specs.Sharing.{too_few}
 use Rattle.holdovers.specs.Holdovers.{choose, adopted_with, own_with, lost_with}
 use Rattle.cases.specs.Worked.{reads, seen, fuse, based, WorkedCases}

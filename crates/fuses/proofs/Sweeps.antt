@@ -10,8 +10,8 @@ use Rattle.clocks.specs.declared.interval.Interval.{Interval}
 use Rattle.clocks.specs.Intervals.{within}
 use Rattle.fuses.specs.Sharing.{sharing, Sample, Fuses, from_samples}
 use Rattle.fuses.specs.Sweeping.{count_below, shared_by, sweep, begun_count, ended_count, TimelyAll}
-use Rattle.fuses.specs.Meaning.{In, here, there, Sampled, Before, After, samples_fuse}
-use Rattle.fuses.specs.Readings.{holds_within, in_cons}
+use Rattle.fuses.specs.Lemmas.Meaning.{In, here, there, Sampled, Before, After, samples_fuse}
+use Rattle.fuses.specs.Lemmas.Readings.{holds_within, in_cons}
 
 one_more : (b : Bool) (n : ℕ) → cond b 1 0 + n ≤ 1 + n
 one_more true n = omega arith

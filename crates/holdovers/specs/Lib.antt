@@ -1,5 +1,4 @@
 -- The definitions that the contracts cite.
-pub mod Anchors
 pub mod Bases
 pub mod Holdovers
-pub mod HoldoversLemmas
+pub mod Lemmas

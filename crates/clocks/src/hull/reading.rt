@@ -1,7 +1,7 @@
 // How a hull is made, advanced and read.
 ghost use Rattle.std.specs.Prelude.{◌≡◌};
 ghost use Rattle.clocks.specs.Hulls.{kept_over, read_over, hull_made, hull_next, hull_truth, NeverFalls};
-ghost use Rattle.clocks.specs.HullsLemmas.{hull_keeps};
+ghost use Rattle.clocks.specs.Lemmas.Hulls.{hull_keeps};
 
 use super::Hull;
 use crate::clock::Clock;

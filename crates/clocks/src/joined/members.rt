@@ -1,7 +1,7 @@
 // How two banks are joined, advanced and read.
 ghost use Rattle.std.specs.Prelude.{◌≡◌};
 ghost use Rattle.clocks.specs.Banks.{joined_fresh, joined_next, joined_reading, joined_truth, Joins};
-ghost use Rattle.clocks.specs.BanksLemmas.{joined_keeps};
+ghost use Rattle.clocks.specs.Lemmas.Banks.{joined_keeps};
 
 use super::Joined;
 use crate::bank::{Bank, unreached};

@@ -1,7 +1,7 @@
 // How a reference is made, advanced and read.
 ghost use Rattle.std.specs.Prelude.{◌≡◌};
 ghost use Rattle.clocks.specs.References.{unheard_on, heard_on, reference_fresh, reference_next, reference_truth, MadeOn};
-ghost use Rattle.clocks.specs.ReferencesLemmas.{reference_keeps};
+ghost use Rattle.clocks.specs.Lemmas.References.{reference_keeps};
 
 use super::Reference;
 use crate::clock::Clock;

@@ -1,7 +1,7 @@
 // How a bank of one is made, advanced and read.
 ghost use Rattle.std.specs.Prelude.{◌≡◌};
 ghost use Rattle.clocks.specs.Banks.{single_made, single_next, single_reading, single_truth};
-ghost use Rattle.clocks.specs.BanksLemmas.{single_keeps};
+ghost use Rattle.clocks.specs.Lemmas.Banks.{single_keeps};
 
 use super::Single;
 use crate::bank::{Bank, unreached};

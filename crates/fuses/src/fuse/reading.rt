@@ -2,7 +2,7 @@
 ghost use Rattle.std.specs.Prelude.{◌≡◌};
 ghost use Rattle.fuses.specs.Fuses.{need, usual_tolerance, members, fuse_made, fuse_next, fuse_truth, Means, Tolerates};
 ghost use Rattle.fuses.specs.Sharing.{intervals_of, fused};
-ghost use Rattle.fuses.specs.FusesLemmas.{fuse_keeps};
+ghost use Rattle.fuses.specs.Lemmas.Fuses.{fuse_keeps};
 
 use super::Fuse;
 use super::gather::gather;

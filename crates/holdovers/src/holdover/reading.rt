@@ -3,7 +3,7 @@ ghost use Rattle.std.specs.Prelude.{◌≡◌, ◌≤◌, IfSome};
 ghost use Rattle.rows.specs.Limits.{last_time};
 ghost use Rattle.holdovers.specs.Bases.{count_on};
 ghost use Rattle.holdovers.specs.Holdovers.{holdover_fresh, holdover_next, holdover_truth, Answers};
-ghost use Rattle.holdovers.specs.HoldoversLemmas.{holdover_keeps};
+ghost use Rattle.holdovers.specs.Lemmas.Holdovers.{holdover_keeps};
 
 use super::Holdover;
 use crate::held::held_over;

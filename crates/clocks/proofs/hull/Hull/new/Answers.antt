@@ -1,7 +1,7 @@
 -- The earliest end of the hull made never falls.
 use Rattle.std.proofs.Common.{sym, subst}
 use Rattle.clocks.specs.Hulls.{NeverFalls}
-use Rattle.clocks.specs.HullsLemmas.{hull_rises}
+use Rattle.clocks.specs.Lemmas.Hulls.{hull_rises}
 use Rattle.clocks.proofs.hull.Hull.new.Goals as goal
 
 pub returns : goal.returns

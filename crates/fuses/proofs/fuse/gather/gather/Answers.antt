@@ -1,6 +1,6 @@
 -- A member adds the ends of its reading, if it has one.
 use Rattle.std.proofs.Common.{◌<◌, length, sym, ◌∙◌, arith, length-set}
-use Rattle.fuses.specs.Asked.{asked_read, asked_unread}
+use Rattle.fuses.specs.Lemmas.Asked.{asked_read, asked_unread}
 use Rattle.fuses.proofs.fuse.gather.gather.Goals as goal
 
 pub loop-member-preserved-in_default : goal.loop-member-preserved-in_default

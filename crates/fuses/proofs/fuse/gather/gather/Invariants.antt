@@ -1,6 +1,6 @@
 -- The ends found are those of the members asked.
 use Rattle.std.proofs.Common.{◌≡◌, ◌≤◌, map, length, take}
-use Rattle.fuses.specs.Asked.{first_intervals}
+use Rattle.fuses.specs.Lemmas.Asked.{first_intervals}
 use Rattle.fuses.proofs.fuse.gather.gather.Given as goal
 
 abbrev pub invariant-loop-member : goal.invariant-loop-member

@@ -6,9 +6,9 @@ use Rattle.clocks.specs.declared.interval.Interval.{Interval}
 use Rattle.fuses.specs.Fuses.{need, members}
 use Rattle.fuses.specs.Sharing.{intervals_of, sharing, Fuses, fused}
 use Rattle.fuses.specs.Sweeping.{shared_by, TimelyAll}
-use Rattle.fuses.specs.FusesLemmas.{need_some}
-use Rattle.fuses.specs.Meaning.{only}
-use Rattle.fuses.specs.Readings.{fused_right}
+use Rattle.fuses.specs.Lemmas.Fuses.{need_some}
+use Rattle.fuses.specs.Lemmas.Meaning.{only}
+use Rattle.fuses.specs.Lemmas.Readings.{fused_right}
 use Rattle.fuses.proofs.Sweeps.{shared_is, begins_timely, ends_timely}
 use Rattle.fuses.proofs.fuse.reading.read_over.Goals as needed
 

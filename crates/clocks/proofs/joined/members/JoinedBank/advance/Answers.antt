@@ -1,5 +1,5 @@
 -- Both banks go on, and the counts stay.
-use Rattle.clocks.specs.BanksLemmas.{same_joined}
+use Rattle.clocks.specs.Lemmas.Banks.{same_joined}
 use Rattle.clocks.proofs.joined.members.JoinedBank.advance.Goals as goal
 
 pub returns : goal.returns

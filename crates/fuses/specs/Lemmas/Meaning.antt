@@ -4,7 +4,7 @@ use Rattle.std.proofs.lemmas.Bool.{leb-true, leb-false, le-leb, cases_lt}
 use Rattle.rows.specs.Limits.{last_time}
 use Rattle.clocks.specs.declared.interval.Interval.{Interval}
 use Rattle.clocks.specs.Intervals.{Reading, span, span_or}
-use Rattle.clocks.specs.Spans.{spanning, spanned, backwards, far, span_is}
+use Rattle.clocks.specs.Lemmas.Spans.{spanning, spanned, backwards, far, span_is}
 use Rattle.fuses.specs.Sharing.{Most, too_few, Fuses, Sample, most_of, lowest_of, highest_of, from_samples}
 
 pub data In {A : Type 0} (x : A) : List A → Type 0 where

@@ -6,11 +6,11 @@ use Rattle.clocks.specs.declared.clock.Clock.{Ghosts as Clock}
 use Rattle.clocks.specs.History.{Instant, present, Rising, after}
 use Rattle.clocks.specs.Intervals.{Reading, passed_up, Holds, Unread}
 use Rattle.clocks.specs.Meaning.{Keeps}
-use Rattle.clocks.specs.Following.{follows}
+use Rattle.clocks.specs.Lemmas.Following.{follows}
 use Rattle.holdovers.specs.declared.holdover.Holdover.{Holdover}
 use Rattle.holdovers.specs.Bases.{count_on}
 use Rattle.holdovers.specs.Holdovers.{held_over, holdover_fresh, holdover_held, holdover_next, holdover_truth}
-use Rattle.holdovers.specs.Anchors.{Anchor, FitsTime, held_fits}
+use Rattle.holdovers.specs.Lemmas.Anchors.{Anchor, FitsTime, held_fits}
 
 raised_unread : (r : Reading) → Unread r → Unread (passed_up r)
 raised_unread (Ok i) u = absurd u

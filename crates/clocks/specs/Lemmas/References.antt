@@ -8,7 +8,7 @@ use Rattle.clocks.specs.History.{Instant, after, NothingHeard}
 use Rattle.clocks.specs.Intervals.{Reading, within, Holds}
 use Rattle.clocks.specs.Meaning.{Keeps}
 use Rattle.clocks.specs.References.{unheard_on, heard_on, reference_fresh, reference_next, reference_truth}
-use Rattle.clocks.specs.Spans.{within_holds, span_backwards}
+use Rattle.clocks.specs.Lemmas.Spans.{within_holds, span_backwards}
 
 truth_holds : (r : Reading) (time : ℕ) → elim r as (λ _. Bool) [ Ok i ↦ within i time | Err fault ↦ true ] ≡ true → Holds r time
 truth_holds (Ok i) time e = within_holds i time e

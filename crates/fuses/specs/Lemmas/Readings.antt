@@ -5,9 +5,9 @@ use Rattle.rows.specs.Exactly.{Exactly}
 use Rattle.rows.specs.Limits.{last_time}
 use Rattle.clocks.specs.declared.interval.Interval.{Interval}
 use Rattle.clocks.specs.Intervals.{within}
-use Rattle.clocks.specs.Spans.{within_holds}
+use Rattle.clocks.specs.Lemmas.Spans.{within_holds}
 use Rattle.fuses.specs.Sharing.{sharing, Fuses, Sample, begin_samples, end_samples, fused}
-use Rattle.fuses.specs.Meaning.{In, here, there, Sampled, Before, After, samples_fuse, only}
+use Rattle.fuses.specs.Lemmas.Meaning.{In, here, there, Sampled, Before, After, samples_fuse, only}
 
 pub holds_within : (i : Interval) (time : ℕ) → i.earliest ≤ time → time ≤ i.latest → within i time ≡ true
 holds_within i time h g = and_from _ _ (le-leb i.earliest time h) (le-leb time i.latest g)

@@ -12,8 +12,8 @@ use Rattle.clocks.specs.Meaning.{Keeps, KeepsMembers}
 use Rattle.fuses.specs.declared.fuse.Fuse.{Fuse}
 use Rattle.fuses.specs.Fuses.{need, members, fuse_over, fuse_made, fuse_next, errs, erring, not_erring, fuse_truth, Means, Tolerates}
 use Rattle.fuses.specs.Sharing.{intervals_of, sharing, Fuses, fused}
-use Rattle.fuses.specs.Asked.{first_intervals, sharing_more, none_read}
-use Rattle.fuses.specs.Readings.{holds_within, fused_right, fused_exactly}
+use Rattle.fuses.specs.Lemmas.Asked.{first_intervals, sharing_more, none_read}
+use Rattle.fuses.specs.Lemmas.Readings.{holds_within, fused_right, fused_exactly}
 
 pub need_some : (size tolerated : ℕ) → 1 ≤ need size tolerated
 need_some size tolerated = by (ltb tolerated size) refl

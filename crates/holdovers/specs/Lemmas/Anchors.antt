@@ -3,7 +3,7 @@ use Rattle.std.proofs.Common.{◌≡◌, ℕ, ◌+◌, ◌-◌, ◌*◌, ◌≤�
 use Rattle.std.proofs.lemmas.Bool.{and_parts, cond_both, leb-true, ltb-false}
 use Rattle.clocks.specs.declared.interval.Interval.{Interval}
 use Rattle.clocks.specs.Intervals.{Reading, Holds, width}
-use Rattle.clocks.specs.Spans.{spanned, backwards, far, spanning}
+use Rattle.clocks.specs.Lemmas.Spans.{spanned, backwards, far, spanning}
 use Rattle.holdovers.specs.declared.base.Base.{Base}
 use Rattle.holdovers.specs.declared.held.Held.{Held}
 use Rattle.holdovers.specs.Bases.{million, drift_over, own_interval, own_at, based_on, moved_to, growth_to}

@@ -8,8 +8,8 @@ use Rattle.clocks.specs.History.{Instant, present, Rising, after}
 use Rattle.clocks.specs.Hulls.{crossed, kept_over, read_over, hull_made, hull_next, hull_truth, NeverFalls}
 use Rattle.clocks.specs.Intervals.{Reading, span, Holds, Unread}
 use Rattle.clocks.specs.Meaning.{Keeps}
-use Rattle.clocks.specs.Following.{follows}
-use Rattle.clocks.specs.Spans.{Spanning, spanned, backwards, far, spanning, span_holds}
+use Rattle.clocks.specs.Lemmas.Following.{follows}
+use Rattle.clocks.specs.Lemmas.Spans.{Spanning, spanned, backwards, far, spanning, span_holds}
 
 kept_le : (kept time : ℕ) (r : Reading) → kept ≤ time → Holds r time → kept_over kept r ≤ time
 kept_le kept time (Ok i) h g = omega arith

@@ -12,7 +12,7 @@ use Rattle.clocks.specs.Banks.{of_member, single_made, single_next, single_readi
 use Rattle.clocks.specs.History.{Instant, after}
 use Rattle.clocks.specs.Intervals.{Reading}
 use Rattle.clocks.specs.Meaning.{no_member, Keeps, KeepsMembers}
-use Rattle.clocks.specs.Following.{passes_on, agrees, absent_keeps}
+use Rattle.clocks.specs.Lemmas.Following.{passes_on, agrees, absent_keeps}
 
 unreached : (size member : ℕ) (r : Reading) → size ≤ member → of_member size member r ≡ Err (no_member member)
 unreached size member r h = cond-false (ltb member size) r (Err (no_member member)) (le-ltb member size h)

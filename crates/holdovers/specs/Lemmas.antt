@@ -1,0 +1,3 @@
+-- What the laws of the impls rest on: lemmas, proved here since a law cites only what stands in specs.
+pub mod Anchors
+pub mod Holdovers
