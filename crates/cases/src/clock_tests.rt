@@ -1,6 +1,5 @@
 // The worked cases of the clocks, run.
 use crate::silent::Silent;
-use clocks::bank::Bank;
 use clocks::clock::Clock;
 use clocks::hull::Hull;
 use clocks::joined::Joined;
