@@ -24,7 +24,6 @@ mod tests {
     use schedule::encoder::encode;
     use schedule::reader::read;
     use std::alloc::Global;
-    use std::process::Abort;
     use std::test::Fail;
 
     type Two = Joined<Single<Reference>, Single<Reference>>;
@@ -50,36 +49,37 @@ mod tests {
 
     // The listing of some bytes over the clocks is this text.
     fn shows_over<B: Bank + Drop>(
-        rt: &impl Abort,
         heap: Global,
         clocks: B,
         bytes: &[u8],
         text: &str,
     ) -> Result<(), Fail> {
         let found = listing(heap, clocks, bytes)?;
-        assert_eq!(rt; found.as_str(), text);
-        Ok(())
+        if found.as_str() == text {
+            Ok(())
+        } else {
+            Err(Fail::new(found))
+        }
     }
 
-    fn shows(rt: &impl Abort, heap: Global, bytes: &[u8], text: &str) -> Result<(), Fail> {
-        shows_over(rt, heap, two(), bytes, text)
+    fn shows(heap: Global, bytes: &[u8], text: &str) -> Result<(), Fail> {
+        shows_over(heap, two(), bytes, text)
     }
 
     #[test]
     fn unknown_bytes(rt: HostRuntime) -> Result<(), Fail> {
         let heap = rt.alloc();
-        shows(&rt, heap, b"!", "0 ? 17 33\n")?;
-        shows(&rt, heap, b"B", "0 ? 17 66\n")?;
-        shows(&rt, heap, b"II!II", "0 I 0\n1 I 0\n2 ? 17 33\n")?;
-        shows(&rt, heap, b"", "")
+        shows(heap, b"!", "0 ? 17 33\n")?;
+        shows(heap, b"B", "0 ? 17 66\n")?;
+        shows(heap, b"II!II", "0 I 0\n1 I 0\n2 ? 17 33\n")?;
+        shows(heap, b"", "")
     }
 
     #[test]
     fn cut_commands(rt: HostRuntime) -> Result<(), Fail> {
         let heap = rt.alloc();
-        shows(&rt, heap, b"P", "0 P 18 1\n")?;
+        shows(heap, b"P", "0 P 18 1\n")?;
         shows(
-            &rt,
             heap,
             b"IP\x00\x00\x00\x00\x00\x00\x00\x00\x00\x00\x00\x00\x00\x00\x00\x00",
             "0 I 0\n1 P 18 17\n",
@@ -94,7 +94,7 @@ mod tests {
     #[test]
     fn longest_files(rt: HostRuntime) -> Result<(), Fail> {
         let heap = rt.alloc();
-        shows(&rt, heap, &instants(heap, 65537)?, "0 - 21\n")?;
+        shows(heap, &instants(heap, 65537)?, "0 - 21\n")?;
         let text = listing(heap, two(), &instants(heap, 65536)?)?;
         assert_eq!(rt; text.as_str().lines().count(), 65536);
         assert!(rt; text.as_str().ends_with("\n65535 I 0\n"));
@@ -104,22 +104,15 @@ mod tests {
     #[test]
     fn refused_pairs(rt: HostRuntime) -> Result<(), Fail> {
         let heap = rt.alloc();
-        line_of(&rt, heap, 15, 4503599627370495, 0, "0 P 0\n")?;
-        line_of(&rt, heap, 15, 0, 4503599627370496, "0 P 16\n")?;
-        line_of(&rt, heap, 15, 18446744073709551615, 0, "0 P 16\n")?;
-        line_of(&rt, heap, 16, 0, 4503599627370496, "0 P 15\n")?;
-        line_of(&rt, heap, 255, 100, 110, "0 P 15\n")
+        line_of(heap, 15, 4503599627370495, 0, "0 P 0\n")?;
+        line_of(heap, 15, 0, 4503599627370496, "0 P 16\n")?;
+        line_of(heap, 15, 18446744073709551615, 0, "0 P 16\n")?;
+        line_of(heap, 16, 0, 4503599627370496, "0 P 15\n")?;
+        line_of(heap, 255, 100, 110, "0 P 15\n")
     }
 
     // Setting this pair is answered by this text.
-    fn line_of(
-        rt: &impl Abort,
-        heap: Global,
-        channel: u8,
-        first: u64,
-        second: u64,
-        text: &str,
-    ) -> Result<(), Fail> {
+    fn line_of(heap: Global, channel: u8, first: u64, second: u64, text: &str) -> Result<(), Fail> {
         let command = Command::Set {
             channel,
             first,
@@ -127,16 +120,16 @@ mod tests {
         };
         let mut bytes = Vec::new(heap);
         encode(&command, &mut bytes)?;
-        shows(rt, heap, &bytes, text)
+        shows(heap, &bytes, text)
     }
 
     #[test]
     fn queries(rt: HostRuntime) -> Result<(), Fail> {
         let heap = rt.alloc();
-        shows(&rt, heap, b"N\x00N\x01", "0 N 9 1 0 0\n2 N 9 1 3 0\n")?;
-        shows(&rt, heap, b"N\x02N\xff", "0 N 3\n2 N 3\n")?;
-        shows(&rt, heap, b"IN", "0 I 0\n1 N 18 1\n")?;
-        shows_over(&rt, heap, ten(), b"N\x07N\x08", "0 N 9 1 3 0\n2 N 3\n")
+        shows(heap, b"N\x00N\x01", "0 N 9 1 0 0\n2 N 9 1 3 0\n")?;
+        shows(heap, b"N\x02N\xff", "0 N 3\n2 N 3\n")?;
+        shows(heap, b"IN", "0 I 0\n1 N 18 1\n")?;
+        shows_over(heap, ten(), b"N\x07N\x08", "0 N 9 1 3 0\n2 N 3\n")
     }
 
     // A pair is read at its instant only.
@@ -144,7 +137,6 @@ mod tests {
     fn a_reading_lasts_one_instant(rt: HostRuntime) -> Result<(), Fail> {
         let heap = rt.alloc();
         shows(
-            &rt,
             heap,
             b"P\x03\x00\x00\x00\x00\x00\x00\x00\x64\x00\x00\x00\x00\x00\x00\x00\x6eN\x01IN\x01N\x00IN\x01",
             "0 P 0\n18 N 9 1 3 0\n20 I 0\n21 N 0 100 110\n23 N 9 1 0 0\n25 I 0\n26 N 9 1 3 0\n",
