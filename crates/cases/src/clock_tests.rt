@@ -7,25 +7,30 @@ use clocks::reference::Reference;
 use clocks::single::Single;
 use fuses::fuse::Fuse;
 use holdovers::holdover::Holdover;
+use rows::pair::Pair;
 use rows::refusal::Refusal;
 use rows::row::Row;
 use std::test::Fail;
 
-// Both ends of a reading, or the fault's cause, place and depth.
+// Both ends of a reading, or the fault's cause, place and depth: plain numbers, as the cases have them.
 type Seen = Result<(u64, u64), (u8, u8, u8)>;
 
 fn seen<C: Clock>(clock: &C) -> Seen {
-    match clock.query() {
-        Ok(i) => Ok((i.earliest, i.latest)),
-        Err(fault) => Err((fault.cause.number(), fault.place, fault.depth)),
-    }
+    clock
+        .query()
+        .map(|i| (i.earliest, i.latest))
+        .map_err(|fault| (fault.cause.number(), fault.place, fault.depth))
 }
 
 // What the clock reads after an instant with these pairs, channel by channel.
 fn after<C: Clock>(clock: &mut C, pairs: &[(u8, u64, u64)]) -> Seen {
     let mut row = Row::new();
     for (channel, first, second) in pairs {
-        let _ = row.set(*channel, *first, *second);
+        let pair = Pair {
+            first: *first,
+            second: *second,
+        };
+        let _ = row.set(*channel, pair);
     }
     clock.advance(&row);
     seen(clock)
@@ -94,24 +99,17 @@ fn fuse_over_a_clock_of_ones_own(rt: HostRuntime) -> Result<(), Fail> {
     Ok(())
 }
 
-fn refused<T: Drop>(made: Result<T, Refusal>) -> Option<Refusal> {
-    match made {
-        Ok(_) => None,
-        Err(refusal) => Some(refusal),
-    }
-}
-
 #[test]
 fn makers_refuse(rt: HostRuntime) {
-    assert_eq!(rt; refused(Reference::new(15)), None);
-    assert_eq!(rt; refused(Reference::new(16)), Some(Refusal::NoChannel));
-    assert_eq!(rt; refused(Holdover::new(Silent, 15, 1000)), None);
+    assert_eq!(rt; Reference::new(15).err(), None);
+    assert_eq!(rt; Reference::new(16).err(), Some(Refusal::NoChannel));
+    assert_eq!(rt; Holdover::new(Silent, 15, 1000).err(), None);
     assert_eq!(rt;
-        refused(Holdover::new(Silent, 16, 1001)),
+        Holdover::new(Silent, 16, 1001).err(),
         Some(Refusal::NoChannel)
     );
     assert_eq!(rt;
-        refused(Holdover::new(Silent, 15, 1001)),
+        Holdover::new(Silent, 15, 1001).err(),
         Some(Refusal::BadRate)
     );
 }

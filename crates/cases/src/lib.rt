@@ -30,6 +30,7 @@ mod tests {
 
     type Ten = Joined<Joined<Joined<Two, Two>, Joined<Two, Two>>, Two>;
 
+    // Each literal is proved in range at its call; a `Channel` would be made of the same literal.
     fn reference(channel: u8) -> Single<Reference>
         requires { channel < channels }
     {
@@ -113,11 +114,8 @@ mod tests {
 
     // Setting this pair is answered by this text.
     fn line_of(heap: Global, channel: u8, first: u64, second: u64, text: &str) -> Result<(), Fail> {
-        let command = Command::Set {
-            channel,
-            first,
-            second,
-        };
+        let pair = Pair { first, second };
+        let command = Command::Set { channel, pair };
         let mut bytes = Vec::new(heap);
         encode(&command, &mut bytes)?;
         shows(heap, &bytes, text)
@@ -146,11 +144,11 @@ mod tests {
     #[test]
     fn written_and_read_back(rt: HostRuntime) -> Result<(), Fail> {
         let heap = rt.alloc();
-        let command = Command::Set {
-            channel: 3,
+        let pair = Pair {
             first: 100,
             second: 110,
         };
+        let command = Command::Set { channel: 3, pair };
         let mut bytes = Vec::new(heap);
         encode(&command, &mut bytes)?;
         assert_eq!(rt;
@@ -165,7 +163,7 @@ mod tests {
 
     // The pair on a channel, if there is such a channel.
     fn pair_on(row: &Row, channel: u8) -> Option<Pair> {
-        Some(row.pair(Channel::new(channel)?))
+        Some(row.pair(Channel::try_from(channel).ok()?))
     }
 
     #[test]
@@ -179,9 +177,13 @@ mod tests {
             second: 110,
         };
         let mut row = Row::new();
-        assert_eq!(rt; row.set(15, 100, 110), Ok(()));
-        assert_eq!(rt; row.set(16, 100, 110), Err(Refusal::NoChannel));
-        assert_eq!(rt; row.set(15, 0, 4503599627370496), Err(Refusal::BadPair));
+        let late = Pair {
+            first: 0,
+            second: 4503599627370496,
+        };
+        assert_eq!(rt; row.set(15, set), Ok(()));
+        assert_eq!(rt; row.set(16, set), Err(Refusal::NoChannel));
+        assert_eq!(rt; row.set(15, late), Err(Refusal::BadPair));
         assert_eq!(rt; pair_on(&row, 15), Some(set));
         assert_eq!(rt; pair_on(&row, 14), Some(unset));
         row.clear();

@@ -27,10 +27,6 @@ impl Clock for Silent {
     fn advance(&mut self, _row: &Row) {}
 
     fn query(&self) -> Result<Interval, Fault> {
-        Err(Fault {
-            cause: Cause::Unheard,
-            place: 0,
-            depth: 0,
-        })
+        Err(Fault::new(Cause::Unheard, 0))
     }
 }

@@ -5,17 +5,11 @@ ghost use Rattle.cases.specs.Worked.{WorkedCases};
 
 use clocks::interval::Interval;
 
-// The interval of the first case.
-fn agreed() -> Option<Interval>
-    ensures { result ≡ span 105 110 }
-{
-    Interval::new(105, 110)
-}
-
 // The reading of the first case; every case holds of the definitions.
+#[tactic(auto, using(crate::proofs::Cases::worked))]
 pub fn worked_cases() -> Option<Interval>
     ensures reading { result ≡ span 105 110 }
     ensures all { WorkedCases }
 {
-    agreed()
+    Interval::new(105, 110)
 }

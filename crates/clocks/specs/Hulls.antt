@@ -11,6 +11,7 @@ use Rattle.std.specs.Prelude.{◌≡◌, ℕ, ◌≤◌, max, Bool, true, ◌&&�
 use Rattle.rows.specs.declared.fault.Fault.{Fault}
 use Rattle.rows.specs.declared.fault.Cause.TheVariants.{Crossed}
 use Rattle.rows.specs.declared.pair.Pair.{Pair}
+use Rattle.rows.specs.Faults.{arising}
 use Rattle.clocks.specs.declared.clock.Clock.{Ghosts as Clock}
 use Rattle.clocks.specs.declared.hull.Hull.{Hull}
 use Rattle.clocks.specs.declared.interval.Interval.{Interval}
@@ -23,7 +24,7 @@ kept_over kept (Ok i) = max kept i.earliest
 kept_over kept (Err fault) = kept
 
 abbrev pub crossed : Fault
-crossed = record { cause = Crossed; place = 0; depth = 0 }
+crossed = arising Crossed 0
 
 -- kept 50 over [40, 80] reads [50, 80], and over [10, 49] is crossed
 abbrev pub read_over : ℕ → Reading → Reading

@@ -6,6 +6,7 @@ use Rattle.std.specs.Prelude.{◌≡◌, ℕ, ◌≤◌, Bool, true, List, [], �
 use Rattle.rows.specs.declared.fault.Fault.{Fault}
 use Rattle.rows.specs.declared.fault.Cause.TheVariants.{Unheard}
 use Rattle.rows.specs.declared.pair.Pair.{Pair}
+use Rattle.rows.specs.Faults.{arising}
 use Rattle.rows.specs.Limits.{most_members}
 use Rattle.clocks.specs.Intervals.{Reading, Holds, Unread}
 use Rattle.clocks.specs.History.{Instant, Rising, after, NothingHeard}
@@ -26,7 +27,7 @@ pub record Keeps {C : Type 0} (fresh : C → C) (next : C → List Pair → C) (
 
 -- unheard, and its place is the number that names no member
 abbrev pub no_member : ℕ → Fault
-no_member member = record { cause = Unheard; place = member; depth = 0 }
+no_member member = arising Unheard member
 
 pub record KeepsMembers {B : Type 0} (size : B → ℕ) (fresh : B → B) (next : B → List Pair → B) (reading : B → ℕ → Reading) (truth : B → ℕ → List Instant → Bool) : Type 0 where
   pub some : (b : B) → 1 ≤ size b

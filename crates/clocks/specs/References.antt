@@ -14,6 +14,7 @@ use Rattle.rows.specs.declared.fault.Cause.TheVariants.{Unheard}
 use Rattle.rows.specs.declared.pair.Pair.{Pair}
 use Rattle.rows.specs.declared.refusal.Refusal.{Refusal}
 use Rattle.rows.specs.declared.refusal.Refusal.TheVariants.{NoChannel}
+use Rattle.rows.specs.Faults.{arising}
 use Rattle.rows.specs.Limits.{channels, pair_on}
 use Rattle.rows.specs.Refusals.{Reason, unless}
 use Rattle.clocks.specs.declared.reference.Reference.{Reference}
@@ -21,7 +22,7 @@ use Rattle.clocks.specs.Intervals.{Reading, span_or, within}
 use Rattle.clocks.specs.History.{Instant}
 
 abbrev pub unheard_on : ℕ → Fault
-unheard_on channel = record { cause = Unheard; place = channel; depth = 0 }
+unheard_on channel = arising Unheard channel
 
 -- the pair (100, 110) reads [100, 110]; (1, 0) is unheard
 abbrev pub heard_on : List Pair → ℕ → Reading

@@ -3,12 +3,13 @@ ghost use Rattle.std.specs.Prelude.{◌≡◌, ℕ, Bool, List};
 ghost use Rattle.rows.specs.declared.pair.Pair.{Pair};
 ghost use Rattle.clocks.specs.History.{Instant};
 ghost use Rattle.clocks.specs.Intervals.{Reading};
-ghost use Rattle.clocks.specs.Meaning.{no_member, KeepsMembers};
+ghost use Rattle.clocks.specs.Meaning.{KeepsMembers};
 
 use crate::interval::Interval;
-use rows::fault::{Cause, Fault};
+use rows::fault::Fault;
 use rows::row::Row;
 
+// With `restart` and `advance` in one trait above `Clock` and this one, each type would need two impls.
 pub trait Bank {
     // How many members it has, from 1 to 255.
     ghost size: { Self → ℕ };
@@ -32,22 +33,11 @@ pub trait Bank {
         ensures { self.new ≡ fresh self.old };
 
     fn advance(&mut self, row: &Row)
-        ensures { self.new ≡ next self.old row.now.pairs };
+        ensures { self.new ≡ next self.old row.now };
 
     // One member's reading; a number that names no member is unheard.
     fn query(&self, member: u8) -> Result<Interval, Fault>
         ensures { result ≡ reading self.now member };
 
     ghost keeps: { KeepsMembers size fresh next reading truth };
-}
-
-// What is said of a number that names no member.
-pub(crate) fn unreached(member: u8) -> Fault
-    ensures { result ≡ no_member member }
-{
-    Fault {
-        cause: Cause::Unheard,
-        place: member,
-        depth: 0,
-    }
 }

@@ -8,7 +8,7 @@ mod members;
 pub struct Joined<A, B> {
     first: A,
     second: B,
-    // How many members the first has.
+    // How many members the first has; kept with the count of both, so that a look-up adds nothing up.
     split: u8,
     count: u8,
     ghost some: { 1 ≤ count },

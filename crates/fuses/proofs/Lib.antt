@@ -1,3 +1,2 @@
 -- The lemmas that the proofs share.
-pub mod Steps
-pub mod Sweeps
+pub mod Bounds

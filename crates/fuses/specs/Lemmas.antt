@@ -2,4 +2,5 @@
 pub mod Asked
 pub mod Fuses
 pub mod Meaning
+pub mod Outermost
 pub mod Readings

@@ -1,20 +1,22 @@
 -- What readings share, by its meaning and worked out.
---   intervals_of   the readings among what members answered
---   sharing        how many of the readings hold a time
---   HoldsAll       an interval holds every time that enough readings share
---   Smallest       the smallest such interval
---   Most           the most readings that share one time
---   too_few        the fault that too few meet
---   MeetTooFew     that fault, and that it is right
---   Fuses          what readings fuse to: that interval, or that fault
---   Sample         a time, and how many readings share it
---   most_of, lowest_of, highest_of   what samples come to
---   from_samples   the fused reading, by samples where readings begin and where they end
---   begin_samples, end_samples       those at the ends of the readings themselves
---   fused          what readings fuse to, worked out
-use Rattle.std.specs.Prelude.{◌≡◌, ℕ, ◌+◌, ◌<◌, ◌≤◌, min, max, cond, List, [], ◌∷◌, map, Ok, Err, nat_le}
+--   intervals_of    the readings among what members answered
+--   sharing         how many of the readings hold a time
+--   HoldsAll        an interval holds every time that enough readings share
+--   Smallest        the smallest such interval
+--   Most            the most readings that share one time
+--   too_few         the fault that too few meet
+--   MeetTooFew      that fault, and that it is right
+--   Fuses           what readings fuse to: that interval, or that fault
+--   most_shared     the most readings that share one of these times
+--   lowest_shared   the lowest of these times that enough readings share
+--   highest_shared  the highest of them
+--   fused_from      what readings fuse to that begin and end at these times
+--   fused           what readings fuse to, worked out
+--   shared_by       how many share a time, by where they begin and where they end
+use Rattle.std.specs.Prelude.{◌≡◌, ℕ, ◌+◌, ◌-◌, ◌<◌, ◌≤◌, min, max, cond, List, [], ◌∷◌, map, filter, fold, count_by, Ok, Err, nat_le, nat_lt}
 use Rattle.rows.specs.declared.fault.Fault.{Fault}
 use Rattle.rows.specs.declared.fault.Cause.TheVariants.{TooFew}
+use Rattle.rows.specs.Faults.{arising}
 use Rattle.rows.specs.Limits.{last_time}
 use Rattle.clocks.specs.declared.interval.Interval.{Interval}
 use Rattle.clocks.specs.Intervals.{Reading, span_or, within, Holds}
@@ -46,7 +48,7 @@ pub record Most (shares : ℕ → ℕ) (most : ℕ) : Type 0 where
   pub never_more : (time : ℕ) → shares time ≤ most
 
 abbrev pub too_few : ℕ → Fault
-too_few most = record { cause = TooFew; place = most; depth = 0 }
+too_few most = arising TooFew most
 
 -- its place is the most readings that share one time
 pub record MeetTooFew (need : ℕ) (shares : ℕ → ℕ) (fault : Fault) : Type 0 where
@@ -59,36 +61,29 @@ abbrev pub Fuses : ℕ → (ℕ → ℕ) → Reading → Type 0
 Fuses need shares (Ok i) = Smallest need shares i
 Fuses need shares (Err fault) = MeetTooFew need shares fault
 
-pub record Sample : Type 0 where
-  pub time : ℕ
-  pub count : ℕ
+-- of those three, at 100, 105 and 300: 2
+abbrev pub most_shared : (ℕ → ℕ) → List ℕ → ℕ
+most_shared shares times = fold max 0 (map shares times)
 
-abbrev pub most_of : List Sample → ℕ
-most_of [] = 0
-most_of (x ∷ xs) = max x.count (most_of xs)
+-- of those three and need 2, at 100, 105 and 300: 105; the last time where none has enough
+abbrev pub lowest_shared : ℕ → (ℕ → ℕ) → List ℕ → ℕ
+lowest_shared need shares times = fold min last_time (filter (λ time. nat_le need (shares time)) times)
 
--- the last time where no sample has enough
-abbrev pub lowest_of : ℕ → List Sample → ℕ
-lowest_of need [] = last_time
-lowest_of need (x ∷ xs) = cond (nat_le need x.count) (min x.time (lowest_of need xs)) (lowest_of need xs)
+-- of those three and need 2, at 110, 115 and 310: 110; 0 where none has enough
+abbrev pub highest_shared : ℕ → (ℕ → ℕ) → List ℕ → ℕ
+highest_shared need shares times = fold max 0 (filter (λ time. nat_le need (shares time)) times)
 
--- 0 where no sample has enough
-abbrev pub highest_of : ℕ → List Sample → ℕ
-highest_of need [] = 0
-highest_of need (x ∷ xs) = cond (nat_le need x.count) (max x.time (highest_of need xs)) (highest_of need xs)
+-- of those three, at their beginnings and ends: [105, 110] for need 2, and that too few meet, at most 2, for need 3
+abbrev pub fused_from : ℕ → (ℕ → ℕ) → List ℕ → List ℕ → Reading
+fused_from need shares begins ends =
+    cond (nat_le need (most_shared shares begins))
+    (span_or (lowest_shared need shares begins) (highest_shared need shares ends) (too_few (most_shared shares begins)))
+    (Err (too_few (most_shared shares begins)))
 
-abbrev pub from_samples : ℕ → List Sample → List Sample → Reading
-from_samples need begins ends =
-    cond (nat_le need (most_of begins))
-    (span_or (lowest_of need begins) (highest_of need ends) (too_few (most_of begins)))
-    (Err (too_few (most_of begins)))
-
--- where each reading begins, and where each ends
-abbrev pub begin_samples : List Interval → List Sample
-begin_samples is = map (λ i. record { time = i.earliest; count = sharing is i.earliest }) is
-
-abbrev pub end_samples : List Interval → List Sample
-end_samples is = map (λ i. record { time = i.latest; count = sharing is i.latest }) is
-
+-- at the beginnings and ends of the readings themselves
 abbrev pub fused : ℕ → List Interval → Reading
-fused need is = from_samples need (begin_samples is) (end_samples is)
+fused need is = fused_from need (sharing is) (map (λ i. i.earliest) is) (map (λ i. i.latest) is)
+
+-- those that have begun by then, less those that have ended before: of those three, at 108, two less none
+abbrev pub shared_by : List ℕ → List ℕ → ℕ → ℕ
+shared_by begins ends time = count_by (λ n. nat_le n time) begins - count_by (λ n. nat_lt n time) ends

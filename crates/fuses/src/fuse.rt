@@ -2,9 +2,10 @@
 use clocks::interval::Interval;
 use rows::fault::Fault;
 
+mod bounds;
 mod gather;
 mod reading;
-mod sweep;
+mod rising;
 
 #[derive(Drop)]
 pub struct Fuse<B> {

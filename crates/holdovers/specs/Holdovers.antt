@@ -3,6 +3,7 @@
 --   adopted_with      the base and the reading where the reading below is adopted
 --   own_with          the base and the reading where the own interval is read
 --   lost_with         the base and the reading with neither
+--   without_base      no base, and the reading below, passed up
 --   held_over         the base and the reading after an instant
 --   apart             how far two times are apart
 --   steady            the count ran off no further than its rate allows
@@ -48,6 +49,10 @@ own_with base heard i = record { base = moved_to base heard; reading = Ok i }
 abbrev pub lost_with : Fault → Held
 lost_with fault = record { base = None; reading = Err (deeper fault) }
 
+-- over the fault 1 0 0 it reads the fault 1 0 1
+abbrev pub without_base : Reading → Held
+without_base below = record { base = None; reading = passed_up below }
+
 abbrev pub held_over : ℕ → Option Base → Option ℕ → Reading → Held
 held_over rate base heard below = choose (own_at rate base heard) below (adopted_with heard) (own_with base heard) lost_with
 
@@ -70,21 +75,21 @@ making channel rate = unless (holdover_reasons channel rate) tt
 
 module _ {C : Type 0} (clock : Clock C) where
   abbrev pub holdover_fresh : Holdover C → Holdover C
-  holdover_fresh h = record { below = clock.fresh h.below; channel = h.channel; rate = h.rate; base = None; reading = passed_up (clock.reading (clock.fresh h.below)) }
+  holdover_fresh h = record { below = clock.fresh h.below; channel = h.channel; rate = h.rate; held = without_base (clock.reading (clock.fresh h.below)) }
 
   abbrev pub holdover_held : Holdover C → List Pair → Held
-  holdover_held h pairs = held_over h.rate.parts h.base (count_on pairs h.channel.index) (clock.reading (clock.next h.below pairs))
+  holdover_held h pairs = held_over h.rate h.held.base (count_on pairs h.channel.index) (clock.reading (clock.next h.below pairs))
 
   abbrev pub holdover_next : Holdover C → List Pair → Holdover C
-  holdover_next h pairs = record { below = clock.next h.below pairs; channel = h.channel; rate = h.rate; base = (holdover_held h pairs).base; reading = (holdover_held h pairs).reading }
+  holdover_next h pairs = record { below = clock.next h.below pairs; channel = h.channel; rate = h.rate; held = holdover_held h pairs }
 
   -- by whether the clock below is true now and the holdover was before, and by the true times before and now
   abbrev pub true_next : Holdover C → List Pair → Bool → Bool → ℕ → ℕ → Bool
   true_next h pairs below_true was_true from to =
       let heard = count_on pairs h.channel.index in
-      choose (own_at h.rate.parts h.base heard) (clock.reading (clock.next h.below pairs))
+      choose (own_at h.rate h.held.base heard) (clock.reading (clock.next h.below pairs))
       (λ adopted. below_true)
-      (λ own. was_true && steady h.rate.parts (growth_to h.base heard) from to)
+      (λ own. was_true && steady h.rate (growth_to h.held.base heard) from to)
       (λ fault. true)
 
   abbrev pub holdover_truth : Holdover C → List Instant → Bool
@@ -94,9 +99,9 @@ module _ {C : Type 0} (clock : Clock C) where
   pub record Makes (below : C) (channel rate : ℕ) (h : Holdover C) : Type 0 where
     pub below_fresh : h.below ≡ clock.fresh below
     pub on_channel : h.channel.index ≡ channel
-    pub at_rate : h.rate.parts ≡ rate
-    pub no_base : h.base ≡ None
-    pub fault_raised : h.reading ≡ passed_up (clock.reading (clock.fresh below))
+    pub at_rate : h.rate ≡ rate
+    pub no_base : h.held.base ≡ None
+    pub fault_raised : h.held.reading ≡ passed_up (clock.reading (clock.fresh below))
 
   abbrev pub Answers : C → ℕ → ℕ → Result (Holdover C) Refusal → Type 0
   Answers below channel rate (Ok h) = (making channel rate ≡ Ok tt) × Makes below channel rate h

@@ -1,8 +1,7 @@
 // What a holdover goes on from: an interval, the count then, and the last count heard.
 mod own;
 
-pub(crate) use own::own_at;
-
+// Four plain numbers by a rule of the project.
 #[derive(Clone, Copy)]
 pub(crate) struct Base {
     pub(crate) earliest: u64,

@@ -5,8 +5,6 @@ use rows::fault::Fault;
 
 mod choosing;
 
-pub(crate) use choosing::held_over;
-
 #[derive(Clone, Copy)]
 pub(crate) struct Held {
     pub(crate) base: Option<Base>,

@@ -1,8 +1,6 @@
 // A holdover over any clock, on a channel and at a rate.
-use crate::base::Base;
-use clocks::interval::Interval;
+use crate::held::Held;
 use rows::channel::Channel;
-use rows::fault::Fault;
 use rows::rate::Rate;
 
 mod reading;
@@ -12,6 +10,5 @@ pub struct Holdover<C> {
     below: C,
     channel: Channel,
     rate: Rate,
-    base: Option<Base>,
-    reading: Result<Interval, Fault>,
+    held: Held,
 }

@@ -1,11 +1,9 @@
 -- The lines of a run, worked out from the front, and that there are no others.
-use Rattle.std.proofs.Common.{◌≡◌, ℕ, zero, suc, ◌+◌, ◌<◌, ◌≤◌, List, [], ◌∷◌, ◌++◌, length, get_or, take, drop, Option, sym, ap, ◌∙◌, add-zero, zero-add, arith, length-append, take-append-drop}
-use native.Mathlib.Decide.{dec_le}
-use Rattle.std.specs.List.{flat_map}
-use Rattle.std.proofs.lemmas.List.{same_lists, length-take-le, get_or-take, get_or_past}
+use Rattle.std.proofs.Common.{◌≡◌, ℕ, zero, suc, ◌+◌, List, [], ◌∷◌, length, drop, Some, Option, refl, zero-add, arith, length-append}
+use Rattle.std.specs.List.{slice_get}
 use Rattle.runs.specs.declared.event.Event.{Event}
 use Rattle.schedule.specs.declared.stop.Stop.{Stop}
-use Rattle.schedule.specs.Encoding.{form_of, encoding}
+use Rattle.schedule.specs.Encoding.{form_of}
 use Rattle.schedule.proofs.Widths.{width_is}
 use Rattle.listing.specs.declared.line.Line.{Line}
 use Rattle.listing.specs.Lines.{event_line, stop_lines, offset_of, InOrder}
@@ -17,40 +15,30 @@ lines offset (e ∷ es) stop = event_line offset e ∷ lines (offset + (form_of 
 
 -- past one more command
 past : (offset : ℕ) (x : Event) (es : List Event) (place : ℕ) → (offset + (form_of x.command).width) + offset_of es place ≡ offset + offset_of (x ∷ es) (suc place)
-past offset x es place = omega (arith, width_is x.command, length-append (encoding x.command) (flat_map (λ e. encoding e.command) (take place es)))
+past offset x es place = grind (arith, width_is x.command, length-append)
 
-each_from : (offset : ℕ) (es : List Event) (stop : Option Stop) (place : ℕ) (e : Event) (l : Line) → place < length es → get_or (lines offset es stop) place l ≡ event_line (offset + offset_of es place) (get_or es place e)
-each_from offset [] stop place e l h = absurd (omega arith)
-each_from offset (x ∷ es) stop zero e l h = ap (λ n. event_line n x) (sym (add-zero offset))
-each_from offset (x ∷ es) stop (suc place) e l h =
-    each_from (offset + (form_of x.command).width) es stop place e l (omega arith) ∙ ap (λ n. event_line n (get_or es place e)) (past offset x es place)
+each_from : (offset : ℕ) (es : List Event) (stop : Option Stop) (place : ℕ) (e : Event) → slice_get es place ≡ Some e → slice_get (lines offset es stop) place ≡ Some (event_line (offset + offset_of es place) e)
+each_from offset [] stop place e is = absurd cc
+each_from offset (x ∷ es) stop zero e is = grind arith
+each_from offset (x ∷ es) stop (suc place) e is = grind (arith, each_from (offset + (form_of x.command).width) es stop place e is, past)
 
 last_from : (offset : ℕ) (es : List Event) (stop : Option Stop) → drop (length es) (lines offset es stop) ≡ stop_lines (offset + offset_of es (length es)) stop
-last_from offset [] stop = ap (λ n. stop_lines n stop) (sym (add-zero offset))
-last_from offset (x ∷ es) stop = last_from (offset + (form_of x.command).width) es stop ∙ ap (λ n. stop_lines n stop) (past offset x es (length es))
+last_from offset [] stop = grind arith
+last_from offset (x ∷ es) stop = grind (arith, last_from (offset + (form_of x.command).width) es stop, past)
 
 pub lines_in_order : (es : List Event) (stop : Option Stop) → InOrder es stop (lines 0 es stop)
-lines_in_order es stop = record {
-  each = λ place e l h. each_from 0 es stop place e l h ∙ ap (λ n. event_line n (get_or es place e)) (zero-add (offset_of es place));
-  last = last_from 0 es stop ∙ ap (λ n. stop_lines n stop) (zero-add (offset_of es (length es)));
-}
+lines_in_order es stop = record { each = simp zero-add at (each_from 0 es stop); last = simp zero-add at (last_from 0 es stop) }
 
--- a line at every event's place: past the end of the lines any line would have to be the event's
-long : (es : List Event) (stop : Option Stop) (ls : List Line) (e : Event) → InOrder es stop ls → length es ≤ length ls
-long es stop ls e o = elim (dec_le (length es) (length ls)) [ yes p ↦ p | no q ↦ absurd (never (omega arith)) ]
-  where
-    never : length ls < length es → ⊥
-    never h =
-        let line = event_line (offset_of es (length ls)) (get_or es (length ls) e) in
-        let other : Line = record { offset = suc line.offset; letter = line.letter; outcome = line.outcome } in
-        let same : other ≡ line = sym (get_or_past ls (length ls) other (omega arith)) ∙ o.each (length ls) e other h in
-        omega (arith, ap (λ l. l.offset) same)
+only_from : (offset : ℕ) (es : List Event) (stop : Option Stop) (ls : List Line) → ((place : ℕ) (e : Event) → slice_get es place ≡ Some e → slice_get ls place ≡ Some (event_line (offset + offset_of es place) e)) → drop (length es) ls ≡ stop_lines (offset + offset_of es (length es)) stop → ls ≡ lines offset es stop
+only_from offset [] stop ls each last = grind arith
+only_from offset (x ∷ es) stop [] each last = grind (arith, each 0 x refl)
+only_from offset (x ∷ es) stop (l ∷ ls) each last =
+    let rest =
+    only_from (offset + (form_of x.command).width) es stop ls
+    (λ place e is. grind (arith, each (suc place) e is, past))
+    (grind (arith, past)) in
+    grind (arith, each 0 x refl, rest)
 
-pub same_lines : (es : List Event) (stop : Option Stop) (ls ms : List Line) (e : Event) → InOrder es stop ls → InOrder es stop ms → ls ≡ ms
-same_lines es stop ls ms e o p =
-    let n = length es in
-    let a = length-take-le n ls (long es stop ls e o) in
-    let b = length-take-le n ms (long es stop ms e p) in
-    let fronts : take n ls ≡ take n ms = same_lists (take n ls) (take n ms) (a ∙ sym b) (λ k d h. let lt : k < n = omega (arith, a) in get_or-take n ls k d lt ∙ o.each k e d lt ∙ sym (p.each k e d lt) ∙ sym (get_or-take n ms k d lt)) in
-    let backs : drop n ls ≡ drop n ms = o.last ∙ sym p.last in
-    sym (take-append-drop n ls) ∙ (λ i. fronts i ++ backs i) ∙ take-append-drop n ms
+-- no other lines are in order
+pub only_lines : (es : List Event) (stop : Option Stop) (ls : List Line) → InOrder es stop ls → ls ≡ lines 0 es stop
+only_lines es stop ls o = only_from 0 es stop ls (simp zero-add o.each) (simp zero-add o.last)

@@ -3,9 +3,9 @@
 --   listing_text  the bytes of some lines
 --   InOrder       which lines belong to a run
 --   Lists         which text is the listing of a file
-use Rattle.std.specs.Prelude.{◌≡◌, ℕ, ◌<◌, List, [], ◌∷◌, ◌++◌, length, take, drop, Some, None, Err, decimal, Option, slice_index_or}
+use Rattle.std.specs.Prelude.{◌≡◌, ℕ, List, [], ◌∷◌, ◌++◌, length, take, drop, Some, None, Err, decimal, Option}
 use Rattle.std.proofs.Math.Utf8.{encode as utf8}
-use Rattle.std.specs.List.{flat_map}
+use Rattle.std.specs.List.{flat_map, slice_get}
 use Rattle.rows.specs.Details.{space, spaced}
 use Rattle.clocks.specs.declared.bank.Bank.{Ghosts as Bank}
 use Rattle.store.specs.States.{fresh_state}
@@ -47,7 +47,7 @@ offset_of es place = length (flat_map (λ e. encoding e.command) (take place es)
 
 -- a line for each event, at the event's place and offset; behind them the line of the stop, or nothing
 pub record InOrder (es : List Event) (stop : Option Stop) (ls : List Line) : Type 0 where
-  pub each : (place : ℕ) (e : Event) (l : Line) → place < length es → slice_index_or ls place l ≡ event_line (offset_of es place) (slice_index_or es place e)
+  pub each : (place : ℕ) (e : Event) → slice_get es place ≡ Some e → slice_get ls place ≡ Some (event_line (offset_of es place) e)
   pub last : drop (length es) ls ≡ stop_lines (offset_of es (length es)) stop
 
 -- the commands of the file, run over a store made over the clocks, have these lines, and these this text

@@ -11,6 +11,7 @@ use std::fmt;
 pub struct Line {
     // Bytes before the command.
     pub offset: usize,
+    // A byte of the table, `?` or `-`: all are ASCII, and only the text needs a character.
     pub letter: u8,
     pub outcome: Outcome,
 }
@@ -32,7 +33,7 @@ impl Line {
         Line {
             offset,
             letter: stop.shown_letter(),
-            outcome: Err(stop.refusal()),
+            outcome: Err(stop.into()),
         }
     }
 }

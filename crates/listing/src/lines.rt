@@ -10,14 +10,6 @@ use schedule::form::form_of;
 use schedule::stop::Stop;
 use std::alloc::AllocError;
 
-// The offset behind an event's command.
-fn past(offset: usize, event: &Event) -> usize
-    requires { offset + (form_of event.now.command).width < 2 ^ 64 }
-    ensures { result ≡ offset + (form_of event.now.command).width }
-{
-    offset + form_of(&event.command).width
-}
-
 // Adds a line for each event, and one where reading stopped.
 pub fn add_lines(
     events: &[Event],
@@ -30,11 +22,10 @@ pub fn add_lines(
     let mut offset = 0;
     for event in events {
         lines.push_reserved(Line::of_event(offset, event));
-        offset = past(offset, event);
+        offset += form_of(&event.command).width;
     }
-    let Some(stop) = stop else {
-        return Ok(());
-    };
-    lines.push_reserved(Line::of_stop(offset, stop));
+    if let Some(stop) = stop {
+        lines.push_reserved(Line::of_stop(offset, stop));
+    }
     Ok(())
 }

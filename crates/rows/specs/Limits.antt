@@ -4,8 +4,10 @@
 --   greatest_rate  the greatest rate, in parts per million
 --   most_members   how many clocks a bank has at most
 --   pair_on        the pair on a channel
---   Timely         every number of the pairs is a time
+--   InRange        both numbers of a pair are times
+--   Timely         so are those of every pair
 use Rattle.std.specs.Prelude.{ℕ, ◌≤◌, List, slice_index_or}
+use Rattle.std.specs.List.{All}
 use Rattle.rows.specs.declared.pair.Pair.{Pair}
 
 -- 2 ^ 52 - 1, nearly 143 years
@@ -25,5 +27,8 @@ most_members = 255
 abbrev pub pair_on : List Pair → ℕ → Pair
 pair_on pairs channel = slice_index_or pairs channel (record { first = 0; second = 0 })
 
+abbrev pub InRange : Pair → Type 0
+InRange pair = (pair.first ≤ last_time) × (pair.second ≤ last_time)
+
 abbrev pub Timely : List Pair → Type 0
-Timely pairs = (channel : ℕ) → ((pair_on pairs channel).first ≤ last_time) × ((pair_on pairs channel).second ≤ last_time)
+Timely pairs = All InRange pairs

@@ -18,16 +18,16 @@ unset = record { first = 1; second = 0 }
 abbrev pub nothing_set : List Pair
 nothing_set = replicate channels unset
 
-abbrev pub set_reasons : ℕ → ℕ → ℕ → List Reason
-set_reasons channel first second =
+abbrev pub set_reasons : ℕ → Pair → List Reason
+set_reasons channel pair =
     (nat_le channels channel, NoChannel)
-    ∷ (nat_lt last_time first || nat_lt last_time second, BadPair)
+    ∷ (nat_lt last_time pair.first || nat_lt last_time pair.second, BadPair)
     ∷ []
 
 -- channel 16 with a number above the last time: NoChannel
-abbrev pub setting : ℕ → ℕ → ℕ → Result (Unit {0}) Refusal
-setting channel first second = unless (set_reasons channel first second) tt
+abbrev pub setting : ℕ → Pair → Result (Unit {0}) Refusal
+setting channel pair = unless (set_reasons channel pair) tt
 
 -- accepted, the channel's pair is the new one and every other stays; refused, all stay
-abbrev pub after_setting : List Pair → ℕ → ℕ → ℕ → List Pair
-after_setting pairs channel first second = elim (setting channel first second) [ Ok done ↦ slice_set pairs channel (record { first = first; second = second }) | Err refusal ↦ pairs ]
+abbrev pub after_setting : List Pair → ℕ → Pair → List Pair
+after_setting pairs channel pair = elim (setting channel pair) [ Ok done ↦ slice_set pairs channel pair | Err refusal ↦ pairs ]

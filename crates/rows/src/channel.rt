@@ -1,26 +1,42 @@
 // One of the sixteen channels of a row.
-ghost use Rattle.std.specs.Prelude.{◌≡◌, ◌<◌, ◌≤◌, MatchOption};
+ghost use Rattle.std.specs.Prelude.{◌≡◌, ◌<◌, ◌≤◌, MatchResult};
 ghost use Rattle.rows.specs.Limits.{channels};
+ghost use Rattle.rows.specs.declared.refusal.Refusal.TheVariants.{NoChannel};
+
+use crate::refusal::Refusal;
 
 pub(crate) const CHANNELS: usize = 16;
 
+// No `AtMost`: it is an index, made of a byte, and refused alike wherever it is made.
 #[derive(Clone, Copy)]
 pub struct Channel {
     index: u8,
     ghost within: { index < channels },
 }
 
-impl Channel {
-    pub fn new(index: u8) -> Option<Channel>
-        ensures { MatchOption result (channels ≤ index) (λ c. c.index ≡ index) }
-    {
+impl TryFrom<u8> for Channel {
+    type Error = Refusal;
+
+    ghost try_from_gives = { λ index made. MatchResult made (λ c. c.index ≡ index) (λ refusal. (channels ≤ index) × (refusal ≡ NoChannel)) };
+
+    fn try_from(index: u8) -> Result<Channel, Refusal> {
         if usize::from(index) < CHANNELS {
-            Some(Channel { index })
+            Ok(Channel { index })
         } else {
-            None
+            Err(Refusal::NoChannel)
         }
     }
+}
 
+impl From<Channel> for u8 {
+    ghost from_gives = { λ channel number. number ≡ channel.index };
+
+    fn from(channel: Channel) -> u8 {
+        channel.index
+    }
+}
+
+impl Channel {
     pub fn index(self) -> usize
         ensures { result ≡ self.index }
     {

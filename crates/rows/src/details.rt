@@ -4,6 +4,7 @@ ghost use Rattle.rows.specs.Details.{values, spaced};
 
 use std::fmt;
 
+// Three at most: a list of them would not be `Copy`, which callers may rest on.
 #[derive(Clone, Copy, PartialEq, Eq, Debug)]
 pub enum Details {
     Empty,

@@ -1,29 +1,21 @@
 // How far a count may run off, in parts per million.
-ghost use Rattle.std.specs.Prelude.{◌≡◌, ◌<◌, ◌≤◌, MatchOption};
+ghost use Rattle.std.specs.Prelude.{◌≡◌, ◌<◌, ◌≤◌, MatchResult};
 ghost use Rattle.rows.specs.Limits.{greatest_rate};
+ghost use Rattle.rows.specs.declared.refusal.Refusal.TheVariants.{BadRate};
+
+use crate::at_most::AtMost;
+use crate::refusal::Refusal;
 
 const GREATEST_RATE: u64 = 1_000;
 
-#[derive(Clone, Copy)]
-pub struct Rate {
-    parts: u64,
-    ghost within: { parts ≤ greatest_rate },
-}
+pub type Rate = AtMost<GREATEST_RATE>;
 
-impl Rate {
-    pub fn new(parts: u64) -> Option<Rate>
-        ensures { MatchOption result (greatest_rate < parts) (λ x. x.parts ≡ parts) }
-    {
-        if parts <= GREATEST_RATE {
-            Some(Rate { parts })
-        } else {
-            None
-        }
-    }
+impl TryFrom<u64> for Rate {
+    type Error = Refusal;
 
-    pub fn parts(self) -> u64
-        ensures { result ≡ self.parts }
-    {
-        self.parts
+    ghost try_from_gives = { λ parts made. MatchResult made (λ rate. (rate ≡ parts) × (parts ≤ greatest_rate)) (λ refusal. (greatest_rate < parts) × (refusal ≡ BadRate)) };
+
+    fn try_from(parts: u64) -> Result<Rate, Refusal> {
+        Rate::new(parts).ok_or(Refusal::BadRate)
     }
 }

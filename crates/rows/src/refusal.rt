@@ -29,6 +29,7 @@ impl From<Fault> for Refusal {
 }
 
 impl Refusal {
+    // A name says which number, as `u8::from` would not.
     pub fn number(self) -> u8
         ensures { result ≡ number_of self }
     {
@@ -44,6 +45,7 @@ impl Refusal {
         }
     }
 
+    // What stands behind the number: a part of what it says, so no `From`.
     pub fn details(self) -> Details
         ensures { values result ≡ details_of self }
     {

@@ -20,12 +20,14 @@ type Second = Holdover<Reference>;
 
 type Shards = Joined<Single<First>, Single<Second>>;
 
+// Each literal is proved in range at its call; a `Channel` would be made of the same literal.
 fn reference(channel: u8) -> Reference
     requires { channel < channels }
 {
     Reference::new(channel).unwrap()
 }
 
+// Likewise: both literals are proved in range at the call.
 fn holdover<C: Clock + Drop>(below: C, channel: u8, rate: u64) -> Holdover<C>
     requires { (channel < channels) × (rate ≤ greatest_rate) }
 {

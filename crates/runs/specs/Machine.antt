@@ -18,13 +18,13 @@ use Rattle.runs.specs.declared.event.Event.{Event}
 module _ {B : Type 0} (bank : Bank B) where
   -- of P on channel 16: the refusal NoChannel; of N: the two ends of the clock's reading
   abbrev pub outcome_of : State B → Command → Result Answer Refusal
-  outcome_of state (Set channel first second) = elim (setting channel first second) [ Ok done ↦ Ok Done | Err refusal ↦ Err refusal ]
+  outcome_of state (Set channel pair) = elim (setting channel pair) [ Ok done ↦ Ok Done | Err refusal ↦ Err refusal ]
   outcome_of state Instant = Ok Done
   outcome_of state (Query shard) = elim (queried bank state shard) [ Ok interval ↦ Ok (Reading interval.earliest interval.latest) | Err refusal ↦ Err refusal ]
 
   -- a query leaves everything as it was
   abbrev pub state_after : State B → Command → State B
-  state_after state (Set channel first second) = after_set state channel first second
+  state_after state (Set channel pair) = after_set state channel pair
   state_after state Instant = after_instant bank state
   state_after state (Query shard) = state
 

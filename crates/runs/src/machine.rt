@@ -1,7 +1,6 @@
 // One command, and a list of commands, over a store.
 ghost use Rattle.std.specs.Prelude.{◌≡◌, length, MatchResult};
 ghost use Rattle.rows.specs.Lent.{Added, NoRoom};
-ghost use Rattle.store.specs.States.{state_of};
 ghost use Rattle.runs.specs.Machine.{outcome_of, state_after, performed, events_of, state_after_all};
 
 use crate::command::Command;
@@ -11,31 +10,26 @@ use std::alloc::AllocError;
 use store::store::Store;
 
 fn execute<B: Bank>(store: &mut Store<B>, command: Command) -> Outcome
-    ensures answer { result ≡ outcome_of B.Bank (state_of store.old) command }
-    ensures after { state_of store.new ≡ state_after B.Bank (state_of store.old) command }
+    ensures answer { result ≡ outcome_of B.Bank store.old command }
+    ensures after { store.new ≡ state_after B.Bank store.old command }
 {
     match command {
-        Command::Set {
-            channel,
-            first,
-            second,
-        } => store.set(channel, first, second)?,
-        Command::Instant => store.instant(),
-        Command::Query { shard } => {
-            let reading = store.query(shard)?;
-            return Ok(Answer::Reading {
-                earliest: reading.earliest,
-                latest: reading.latest,
-            });
+        Command::Set { channel, pair } => {
+            store.set(channel, pair)?;
+            Ok(Answer::Done)
         }
+        Command::Instant => {
+            store.instant();
+            Ok(Answer::Done)
+        }
+        Command::Query { shard } => store.query(shard).map(Answer::from),
     }
-    Ok(Answer::Done)
 }
 
 // Carries out one command.
 pub fn perform<B: Bank>(store: &mut Store<B>, command: Command) -> Event
-    ensures event { result ≡ performed B.Bank (state_of store.old) command }
-    ensures after { state_of store.new ≡ state_after B.Bank (state_of store.old) command }
+    ensures event { result ≡ performed B.Bank store.old command }
+    ensures after { store.new ≡ state_after B.Bank store.old command }
 {
     Event {
         command,
@@ -49,8 +43,8 @@ pub fn run<B: Bank>(
     commands: &[Command],
     log: &mut Vec<Event>,
 ) -> Result<(), AllocError>
-    ensures log { MatchResult result (λ _. Added log.old (events_of B.Bank (state_of store.old) commands.now) log.new) (λ _. NoRoom log.old (length commands.now) log.new) }
-    ensures after { MatchResult result (λ _. state_of store.new ≡ state_after_all B.Bank (state_of store.old) commands.now) (λ _. state_of store.new ≡ state_of store.old) }
+    ensures log { MatchResult result (λ _. Added log.old (events_of B.Bank store.old commands.now) log.new) (λ _. NoRoom log.old (length commands.now) log.new) }
+    ensures after { MatchResult result (λ _. store.new ≡ state_after_all B.Bank store.old commands.now) (λ _. store.new ≡ store.old) }
 {
     log.reserve(commands.len())?;
     for command in commands {

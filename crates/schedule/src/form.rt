@@ -6,26 +6,28 @@ use runs::command::Command;
 
 #[derive(Clone, Copy)]
 pub struct Form {
+    // A byte by a rule of the project: the table has the letters as a file has them.
     pub letter: u8,
     // The letter included.
     pub width: usize,
 }
 
-pub(crate) const SET: Form = Form {
+const SET: Form = Form {
     letter: b'P',
     width: 18,
 };
 
-pub(crate) const INSTANT: Form = Form {
+const INSTANT: Form = Form {
     letter: b'I',
     width: 1,
 };
 
-pub(crate) const QUERY: Form = Form {
+const QUERY: Form = Form {
     letter: b'N',
     width: 2,
 };
 
+// A table by a rule of the project, in which the reader looks a letter up.
 const FORMS: [Form; 3] = [SET, INSTANT, QUERY];
 
 pub fn form_of(command: &Command) -> Form
@@ -41,10 +43,8 @@ pub fn form_of(command: &Command) -> Form
 pub(crate) fn width_of(letter: u8) -> Option<usize>
     ensures { result ≡ width_of letter }
 {
-    for form in FORMS {
-        if form.letter == letter {
-            return Some(form.width);
-        }
-    }
-    None
+    FORMS
+        .iter()
+        .find(|form| form.letter == letter)
+        .map(|form| form.width)
 }

@@ -1,14 +1,16 @@
 // Bytes taken apart into commands.
 ghost use Rattle.std.specs.Prelude.{◌≡◌, ℕ, ◌^◌, ◌<◌, ◌≤◌, List, ◌++◌, length, Some, Ok, MatchOption};
+ghost use Rattle.std.specs.Int.{w64, to_be_bytes};
 ghost use Rattle.std.specs.Result as results;
 ghost use Rattle.rows.specs.Exactly.{Exactly};
 ghost use Rattle.rows.specs.Lent.{Added, NoRoom};
 ghost use Rattle.schedule.specs.declared.stop.Stop.TheVariants.{NotALetter, CutShort};
-ghost use Rattle.schedule.specs.Encoding.{width_of, big_endian, encoding, Encodable};
+ghost use Rattle.schedule.specs.Encoding.{width_of, encoding, Encodable};
 ghost use Rattle.schedule.specs.Reading.{NoWholeCommand, Reads, seen, longest, Schedules};
 
 use crate::form::width_of;
 use crate::stop::Stop;
+use rows::pair::Pair;
 use runs::command::Command;
 use std::alloc::AllocError;
 
@@ -16,8 +18,9 @@ use std::alloc::AllocError;
 pub const LONGEST: usize = 65536;
 
 // The number that the first eight bytes spell, the highest first, and the rest.
+// Taken apart by a slice pattern, as commands are, by a rule of the project.
 fn leading_number(bytes: &[u8]) -> Option<(u64, &[u8])>
-    ensures { MatchOption result (length bytes.now < 8) (λ x. (x.0 < 2 ^ 64) × (bytes.now ≡ big_endian 8 x.0 ++ x.1.now)) }
+    ensures { MatchOption result (length bytes.now < 8) (λ x. (x.0 < 2 ^ 64) × (bytes.now ≡ to_be_bytes w64 x.0 ++ x.1.now)) }
 {
     let [a, b, c, d, e, f, g, h, rest @ ..] = bytes else {
         return None;
@@ -26,6 +29,7 @@ fn leading_number(bytes: &[u8]) -> Option<(u64, &[u8])>
 }
 
 // The command that the bytes begin with, if all its bytes are there, and the rest.
+// One pattern of all 18 bytes of P would be more than the prover follows by itself.
 fn leading_command(bytes: &[u8]) -> Option<(Command, &[u8])>
     ensures { MatchOption result (NoWholeCommand bytes.now) (λ x. Encodable x.0 × (bytes.now ≡ encoding x.0 ++ x.1.now)) }
 {
@@ -34,14 +38,8 @@ fn leading_command(bytes: &[u8]) -> Option<(Command, &[u8])>
             let (first, rest) = leading_number(rest)?;
             let (second, rest) = leading_number(rest)?;
             let channel = *channel;
-            Some((
-                Command::Set {
-                    channel,
-                    first,
-                    second,
-                },
-                rest,
-            ))
+            let pair = Pair { first, second };
+            Some((Command::Set { channel, pair }, rest))
         }
         [b'I', rest @ ..] => Some((Command::Instant, rest)),
         [b'N', shard, rest @ ..] => Some((Command::Query { shard: *shard }, rest)),
@@ -67,10 +65,7 @@ pub fn decode(bytes: &[u8]) -> Option<Result<(Command, &[u8]), Stop>>
     let [letter, ..] = bytes else {
         return None;
     };
-    match leading_command(bytes) {
-        Some(found) => Some(Ok(found)),
-        None => Some(Err(stop_at(*letter, bytes.len()))),
-    }
+    Some(leading_command(bytes).ok_or_else(|| stop_at(*letter, bytes.len())))
 }
 
 // Adds the commands of a file, and says why it was read no further, unless it was read to its end.
@@ -82,6 +77,7 @@ pub fn read(bytes: &[u8], commands: &mut Vec<Command>) -> Result<Option<Stop>, A
     }
     // A command has one byte at least.
     commands.reserve(bytes.len())?;
+    // An iterator over the rest would be one more type, and the loop would stay.
     let mut rest = bytes;
     while let Some(next) = decode(rest) {
         match next {

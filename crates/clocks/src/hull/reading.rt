@@ -9,20 +9,11 @@ use crate::interval::{Interval, passed_up};
 use rows::fault::{Cause, Fault};
 use rows::row::Row;
 
-const CROSSED: Fault = Fault {
-    cause: Cause::Crossed,
-    place: 0,
-    depth: 0,
-};
-
 // The kept time after a reading of the clock below.
 fn kept_over(kept: u64, below: Result<Interval, Fault>) -> u64
     ensures { result ≡ kept_over kept below }
 {
-    match below {
-        Ok(i) => kept.max(i.earliest),
-        Err(_) => kept,
-    }
+    below.map_or(kept, |i| kept.max(i.earliest))
 }
 
 // The hull's reading over one of the clock below.
@@ -30,30 +21,24 @@ fn read_over(kept: u64, below: Result<Interval, Fault>) -> Result<Interval, Faul
     ensures { result ≡ read_over kept below }
 {
     let i = passed_up(below)?;
-    Interval::new(kept, i.latest).ok_or(CROSSED)
+    Interval::new(kept, i.latest).ok_or(Fault::new(Cause::Crossed, 0))
 }
 
 impl<C: Clock> Hull<C> {
-    // A fresh hull, whose earliest end never falls.
+    // A fresh hull, whose earliest end never falls; the clock below is made fresh first.
+    #[tactic(auto, using(crate::specs::Lemmas::Hulls::hull_rises))]
     pub fn new(below: C) -> Hull<C>
         ensures made { result ≡ hull_made C.Clock below }
         ensures rises { NeverFalls C.Clock result }
     {
-        Hull::made(below)
-    }
-
-    // The clock below is made fresh first.
-    fn made(below: C) -> Hull<C>
-        ensures { result ≡ hull_made C.Clock below }
-    {
-        let mut below = below;
-        below.restart();
-        let reading = read_over(0, below.query());
-        Hull {
+        let reading = below.query();
+        let mut hull = Hull {
             below,
             kept: 0,
             reading,
-        }
+        };
+        hull.restart();
+        hull
     }
 }
 
@@ -66,6 +51,7 @@ impl<C: Clock> Clock for Hull<C> {
 
     ghost truth = { hull_truth C.Clock };
 
+    // A law takes the members of a bound written out.
     ghost keeps = { hull_keeps (record { fresh = C.fresh; next = C.next; reading = C.reading; truth = C.truth }) C.keeps };
 
     fn restart(&mut self) {

@@ -24,8 +24,5 @@ impl Interval {
 pub fn passed_up(below: Result<Interval, Fault>) -> Result<Interval, Fault>
     ensures { result ≡ passed_up below }
 {
-    match below {
-        Ok(interval) => Ok(interval),
-        Err(fault) => Err(fault.deeper()),
-    }
+    below.map_err(Fault::deeper)
 }

@@ -4,9 +4,9 @@ ghost use Rattle.clocks.specs.Banks.{joined_fresh, joined_next, joined_reading, 
 ghost use Rattle.clocks.specs.Lemmas.Banks.{joined_keeps};
 
 use super::Joined;
-use crate::bank::{Bank, unreached};
+use crate::bank::Bank;
 use crate::interval::Interval;
-use rows::fault::Fault;
+use rows::fault::{Cause, Fault};
 use rows::row::Row;
 
 impl<A: Bank, B: Bank> Joined<A, B> {
@@ -14,34 +14,17 @@ impl<A: Bank, B: Bank> Joined<A, B> {
     pub fn new(first: A, second: B) -> Joined<A, B>
         ensures { Joins A.Bank B.Bank first second result }
     {
-        let mut first = first;
-        let mut second = second;
         let split = first.count();
         let count = split.saturating_add(second.count());
-        restart_both(&mut first, &mut second);
-        Joined {
+        let mut bank = Joined {
             first,
             second,
             split,
             count,
-        }
+        };
+        bank.restart();
+        bank
     }
-}
-
-fn restart_both<A: Bank, B: Bank>(first: &mut A, second: &mut B)
-    ensures first { first.new ≡ A.Bank.fresh first.old }
-    ensures second { second.new ≡ B.Bank.fresh second.old }
-{
-    first.restart();
-    second.restart();
-}
-
-fn advance_both<A: Bank, B: Bank>(first: &mut A, second: &mut B, row: &Row)
-    ensures first { first.new ≡ A.Bank.next first.old row.now.pairs }
-    ensures second { second.new ≡ B.Bank.next second.old row.now.pairs }
-{
-    first.advance(row);
-    second.advance(row);
 }
 
 impl<A: Bank, B: Bank> Bank for Joined<A, B> {
@@ -55,6 +38,7 @@ impl<A: Bank, B: Bank> Bank for Joined<A, B> {
 
     ghost truth = { joined_truth A.Bank B.Bank };
 
+    // A law takes the members of a bound written out.
     ghost keeps = { joined_keeps (record { size = A.size; fresh = A.fresh; next = A.next; reading = A.reading; truth = A.truth }) (record { size = B.size; fresh = B.fresh; next = B.next; reading = B.reading; truth = B.truth }) A.keeps B.keeps };
 
     fn count(&self) -> u8 {
@@ -62,16 +46,18 @@ impl<A: Bank, B: Bank> Bank for Joined<A, B> {
     }
 
     fn restart(&mut self) {
-        restart_both(&mut self.first, &mut self.second);
+        self.first.restart();
+        self.second.restart();
     }
 
     fn advance(&mut self, row: &Row) {
-        advance_both(&mut self.first, &mut self.second, row);
+        self.first.advance(row);
+        self.second.advance(row);
     }
 
     fn query(&self, member: u8) -> Result<Interval, Fault> {
         if member >= self.count {
-            Err(unreached(member))
+            Err(Fault::new(Cause::Unheard, member))
         } else if member < self.split {
             self.first.query(member)
         } else {

@@ -15,15 +15,11 @@ use rows::row::Row;
 fn unheard(channel: Channel) -> Fault
     ensures { result ≡ unheard_on channel.index }
 {
-    Fault {
-        cause: Cause::Unheard,
-        place: channel.index() as u8,
-        depth: 0,
-    }
+    Fault::new(Cause::Unheard, channel.into())
 }
 
 fn heard(row: &Row, channel: Channel) -> Result<Interval, Fault>
-    ensures { result ≡ heard_on row.now.pairs channel.index }
+    ensures { result ≡ heard_on row.now channel.index }
 {
     let pair = row.pair(channel);
     Interval::new(pair.first, pair.second).ok_or(unheard(channel))
@@ -34,7 +30,7 @@ impl Reference {
     pub fn new(channel: u8) -> Result<Reference, Refusal>
         ensures { MadeOn channel result }
     {
-        let channel = Channel::new(channel).ok_or(Refusal::NoChannel)?;
+        let channel = Channel::try_from(channel)?;
         Ok(Reference {
             channel,
             reading: Err(unheard(channel)),

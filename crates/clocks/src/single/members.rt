@@ -4,10 +4,10 @@ ghost use Rattle.clocks.specs.Banks.{single_made, single_next, single_reading, s
 ghost use Rattle.clocks.specs.Lemmas.Banks.{single_keeps};
 
 use super::Single;
-use crate::bank::{Bank, unreached};
+use crate::bank::Bank;
 use crate::clock::Clock;
 use crate::interval::Interval;
-use rows::fault::Fault;
+use rows::fault::{Cause, Fault};
 use rows::row::Row;
 
 impl<C: Clock> Single<C> {
@@ -15,9 +15,9 @@ impl<C: Clock> Single<C> {
     pub fn new(clock: C) -> Single<C>
         ensures { result ≡ single_made C.Clock clock }
     {
-        let mut clock = clock;
-        clock.restart();
-        Single { clock }
+        let mut bank = Single { clock };
+        bank.restart();
+        bank
     }
 }
 
@@ -32,6 +32,7 @@ impl<C: Clock> Bank for Single<C> {
 
     ghost truth = { single_truth C.Clock };
 
+    // A law takes the members of a bound written out.
     ghost keeps = { single_keeps (record { fresh = C.fresh; next = C.next; reading = C.reading; truth = C.truth }) C.keeps };
 
     fn count(&self) -> u8 {
@@ -50,7 +51,7 @@ impl<C: Clock> Bank for Single<C> {
         if member < 1 {
             self.clock.query()
         } else {
-            Err(unreached(member))
+            Err(Fault::new(Cause::Unheard, member))
         }
     }
 }

@@ -1,15 +1,14 @@
 // Which interval a holdover reads, and what it then goes on from.
-ghost use Rattle.std.specs.Prelude.{◌≡◌, ◌≤◌, IfSome};
-ghost use Rattle.rows.specs.Limits.{last_time};
+ghost use Rattle.std.specs.Prelude.{◌≡◌};
 ghost use Rattle.clocks.specs.Intervals.{width};
-ghost use Rattle.holdovers.specs.Bases.{based_on, moved_to};
-ghost use Rattle.holdovers.specs.Holdovers.{adopted_with, own_with, lost_with, held_over};
+ghost use Rattle.holdovers.specs.Holdovers.{without_base, adopted_with, own_with, held_over};
 
 use super::Held;
-use crate::base::{Base, own_at};
-use clocks::interval::Interval;
+use crate::base::Base;
+use clocks::interval::{Interval, passed_up};
 use rows::fault::Fault;
 use rows::rate::Rate;
+use rows::time::Time;
 
 fn width_of(interval: Interval) -> u64
     ensures { result ≡ width interval }
@@ -17,73 +16,64 @@ fn width_of(interval: Interval) -> u64
     interval.latest - interval.earliest
 }
 
-// The base that an adopted interval makes, if a count was heard.
-fn based_on(interval: Interval, heard: Option<u64>) -> Option<Base>
-    ensures { result ≡ based_on interval heard }
-{
-    let count = heard?;
-    Some(Base {
-        earliest: interval.earliest,
-        latest: interval.latest,
-        origin: count,
-        last: count,
-    })
-}
-
-// The same base, with the count that was heard last.
-fn moved_to(base: Option<Base>, heard: Option<u64>) -> Option<Base>
-    ensures { result ≡ moved_to base heard }
-{
-    let base = base?;
-    let last = heard?;
-    Some(Base { last, ..base })
-}
-
-fn adopted_with(heard: Option<u64>, interval: Interval) -> Held
-    ensures { result ≡ adopted_with heard interval }
-{
-    Held {
-        base: based_on(interval, heard),
-        reading: Ok(interval),
+impl Held {
+    // No base, and what the clock below reads.
+    pub(crate) fn without_base(below: Result<Interval, Fault>) -> Held
+        ensures { result ≡ without_base below }
+    {
+        Held {
+            base: None,
+            reading: passed_up(below),
+        }
     }
-}
 
-fn own_with(base: Option<Base>, heard: Option<u64>, interval: Interval) -> Held
-    ensures { result ≡ own_with base heard interval }
-{
-    Held {
-        base: moved_to(base, heard),
-        reading: Ok(interval),
+    // An adopted interval makes the base.
+    fn adopted(interval: Interval, count: Time) -> Held
+        ensures { result ≡ adopted_with (Some count) interval }
+    {
+        Held {
+            base: Some(Base::adopted(interval, count)),
+            reading: Ok(interval),
+        }
     }
-}
 
-fn lost_with(fault: Fault) -> Held
-    ensures { result ≡ lost_with fault }
-{
-    Held {
-        base: None,
-        reading: Err(fault.deeper()),
+    // The own interval is read, and the base has the count that was heard.
+    fn going_on(self, own: Interval, count: Time) -> Held
+        ensures { result ≡ own_with self.base (Some count) own }
+    {
+        Held {
+            base: self.base.map(|base| base.moved_to(count)),
+            reading: Ok(own),
+        }
     }
-}
 
-// What is kept of an instant, after the clock below advanced to its reading.
-pub(crate) fn held_over(
-    rate: Rate,
-    base: Option<Base>,
-    heard: Option<u64>,
-    below: Result<Interval, Fault>,
-) -> Held
-    requires { IfSome heard (λ c. c ≤ last_time) }
-    ensures { result ≡ held_over rate.parts base heard below }
-{
-    match own_at(rate, base, heard) {
-        Some(own) => match below {
-            Ok(lower) if width_of(lower) < width_of(own) => adopted_with(heard, lower),
-            Ok(_) | Err(_) => own_with(base, heard, own),
-        },
-        None => match below {
-            Ok(lower) => adopted_with(heard, lower),
-            Err(fault) => lost_with(fault),
-        },
+    // What is kept of an instant at which a count was heard.
+    fn counted(self, rate: Rate, count: Time, below: Result<Interval, Fault>) -> Held
+        ensures { result ≡ held_over rate self.base (Some count) below }
+    {
+        let own = self.base.and_then(|base| base.own_at(rate, count));
+        match (own, below) {
+            (Some(own), Ok(lower)) if width_of(lower) < width_of(own) => {
+                Held::adopted(lower, count)
+            }
+            (Some(own), _) => self.going_on(own, count),
+            (None, Ok(lower)) => Held::adopted(lower, count),
+            (None, Err(_)) => Held::without_base(below),
+        }
+    }
+
+    // What is kept of an instant, after the clock below advanced to its reading.
+    pub(crate) fn held_over(
+        self,
+        rate: Rate,
+        heard: Option<Time>,
+        below: Result<Interval, Fault>,
+    ) -> Held
+        ensures { result ≡ held_over rate self.base heard below }
+    {
+        match heard {
+            Some(count) => self.counted(rate, count, below),
+            None => Held::without_base(below),
+        }
     }
 }

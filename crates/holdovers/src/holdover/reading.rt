@@ -1,31 +1,26 @@
 // How a holdover is made, advanced and read.
-ghost use Rattle.std.specs.Prelude.{◌≡◌, ◌≤◌, IfSome};
-ghost use Rattle.rows.specs.Limits.{last_time};
+ghost use Rattle.std.specs.Prelude.{◌≡◌};
 ghost use Rattle.holdovers.specs.Bases.{count_on};
 ghost use Rattle.holdovers.specs.Holdovers.{holdover_fresh, holdover_next, holdover_truth, Answers};
 ghost use Rattle.holdovers.specs.Lemmas.Holdovers.{holdover_keeps};
 
 use super::Holdover;
-use crate::held::held_over;
+use crate::held::Held;
 use clocks::clock::Clock;
-use clocks::interval::{Interval, passed_up};
+use clocks::interval::Interval;
 use rows::channel::Channel;
 use rows::fault::Fault;
 use rows::rate::Rate;
 use rows::refusal::Refusal;
 use rows::row::Row;
+use rows::time::Time;
 
 // The count on the channel, if its pair is one.
-fn heard_count(row: &Row, channel: Channel) -> Option<u64>
-    ensures value { result ≡ count_on row.now.pairs channel.index }
-    ensures within { IfSome result (λ c. c ≤ last_time) }
+fn heard_count(row: &Row, channel: Channel) -> Option<Time>
+    ensures { result ≡ count_on row.now channel.index }
 {
     let pair = row.pair(channel);
-    if pair.first == pair.second {
-        Some(pair.first)
-    } else {
-        None
-    }
+    Time::new(pair.first).filter(|first| first.value() == pair.second)
 }
 
 impl<C: Clock + Drop> Holdover<C> {
@@ -33,18 +28,17 @@ impl<C: Clock + Drop> Holdover<C> {
     pub fn new(below: C, channel: u8, rate: u64) -> Result<Holdover<C>, Refusal>
         ensures { Answers C.Clock below channel rate result }
     {
-        let channel = Channel::new(channel).ok_or(Refusal::NoChannel)?;
-        let rate = Rate::new(rate).ok_or(Refusal::BadRate)?;
-        let mut below = below;
-        below.restart();
-        let reading = passed_up(below.query());
-        Ok(Holdover {
+        let channel = Channel::try_from(channel)?;
+        let rate = Rate::try_from(rate)?;
+        let held = Held::without_base(below.query());
+        let mut holdover = Holdover {
             below,
             channel,
             rate,
-            base: None,
-            reading,
-        })
+            held,
+        };
+        holdover.restart();
+        Ok(holdover)
     }
 }
 
@@ -53,27 +47,25 @@ impl<C: Clock> Clock for Holdover<C> {
 
     ghost next = { holdover_next C.Clock };
 
-    ghost reading = { λ h. h.reading };
+    ghost reading = { λ h. h.held.reading };
 
     ghost truth = { holdover_truth C.Clock };
 
+    // A law takes the members of a bound written out.
     ghost keeps = { holdover_keeps (record { fresh = C.fresh; next = C.next; reading = C.reading; truth = C.truth }) C.keeps };
 
     fn restart(&mut self) {
         self.below.restart();
-        self.base = None;
-        self.reading = passed_up(self.below.query());
+        self.held = Held::without_base(self.below.query());
     }
 
     fn advance(&mut self, row: &Row) {
         self.below.advance(row);
         let heard = heard_count(row, self.channel);
-        let held = held_over(self.rate, self.base, heard, self.below.query());
-        self.base = held.base;
-        self.reading = held.reading;
+        self.held = self.held.held_over(self.rate, heard, self.below.query());
     }
 
     fn query(&self) -> Result<Interval, Fault> {
-        self.reading
+        self.held.reading
     }
 }

@@ -1,6 +1,6 @@
 // How a row is made, set, read and cleared.
-ghost use Rattle.std.specs.Prelude.{◌≡◌, set};
-ghost use Rattle.rows.specs.Limits.{pair_on};
+ghost use Rattle.std.specs.Prelude.{◌≡◌};
+ghost use Rattle.rows.specs.Limits.{pair_on, InRange};
 ghost use Rattle.rows.specs.Rows.{nothing_set, setting, after_setting};
 
 use super::Row;
@@ -9,6 +9,7 @@ use crate::pair::Pair;
 use crate::refusal::Refusal;
 use crate::time::Time;
 
+// A pair by a rule of the project, and no `None`: unheard, since its first number is above its second.
 const UNSET: Pair = Pair {
     first: 1,
     second: 0,
@@ -17,43 +18,35 @@ const UNSET: Pair = Pair {
 impl Row {
     // Nothing is set on any channel.
     pub fn new() -> Row
-        ensures { result.pairs ≡ nothing_set }
+        ensures { result ≡ nothing_set }
     {
         Row {
             pairs: [UNSET; CHANNELS],
         }
     }
 
-    pub fn set(&mut self, channel: u8, first: u64, second: u64) -> Result<(), Refusal>
-        ensures answer { result ≡ setting channel first second }
-        ensures after { self.new.pairs ≡ after_setting self.old.pairs channel first second }
+    pub fn set(&mut self, channel: u8, pair: Pair) -> Result<(), Refusal>
+        ensures answer { result ≡ setting channel pair }
+        ensures after { self.new ≡ after_setting self.old channel pair }
     {
-        let channel = Channel::new(channel).ok_or(Refusal::NoChannel)?;
-        let first = Time::new(first).ok_or(Refusal::BadPair)?;
-        let second = Time::new(second).ok_or(Refusal::BadPair)?;
-        self.put(channel, first, second);
+        let place = Channel::try_from(channel)?.index();
+        Time::new(pair.first)
+            .and(Time::new(pair.second))
+            .ok_or(Refusal::BadPair)?;
+        self.pairs[place] = pair;
         Ok(())
     }
 
-    fn put(&mut self, channel: Channel, first: Time, second: Time)
-        ensures { self.new.pairs ≡ set self.old.pairs channel.index (record { first = first.micros; second = second.micros }) }
-    {
-        let place = channel.index();
-        self.pairs[place] = Pair {
-            first: first.micros(),
-            second: second.micros(),
-        };
-    }
-
     pub fn pair(&self, channel: Channel) -> Pair
-        ensures { result ≡ pair_on self.now.pairs channel.index }
+        ensures value { result ≡ pair_on self.now channel.index }
+        ensures in_range { InRange result }
     {
         self.pairs[channel.index()]
     }
 
     // Every pair returns to unset, as it does after an instant.
     pub fn clear(&mut self)
-        ensures { self.new.pairs ≡ nothing_set }
+        ensures { self.new ≡ nothing_set }
     {
         self.pairs = [UNSET; CHANNELS];
     }

@@ -1,2 +1,0 @@
--- The lemmas that the proofs share.
-pub mod Runs
