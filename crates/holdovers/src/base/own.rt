@@ -38,6 +38,7 @@ impl Base {
     }
 
     // How far the count may have run off since the interval was adopted.
+    // The rate is the holdover's and the count the instant's: no struct would hold both.
     fn drift_at(self, rate: Rate, count: Time) -> u64
         ensures { result ≡ drift_over rate (count - self.origin) }
     {
