@@ -9,7 +9,7 @@ use Rattle.std.proofs.lemmas.List.{get_or-drop, get_or-reverse, length-reverse, 
 use Rattle.std.proofs.lemmas.Grind.{get_or_default_zero}
 use Rattle.std.proofs.lemmas.List.Sorted.{All-permutation, length_permutation, IsPartitionPoint-from_clause}
 use Rattle.std.proofs.lemmas.List.Sums.{sum_by-cons, count_by-le-length}
-use Rattle.std.proofs.lemmas.Bool.{leb-true, le-leb, lt-leb, le-ltb, lt-ltb, ltb-false, cases_lt}
+use Rattle.std.proofs.lemmas.Bool.{leb-true, le-leb, lt-leb, le-ltb, lt-ltb, ltb-true, ltb-false, cases_lt}
 use Rattle.std.proofs.lemmas.List.Elements.{All-map, All-head}
 use Rattle.std.proofs.lemmas.Bool.Decides.{nat_tests}
 use Rattle.rows.specs.Limits.{last_time}
@@ -18,7 +18,7 @@ use Rattle.clocks.specs.Intervals.{span}
 use Rattle.clocks.specs.Lemmas.Spans.{spanning, spanned, backwards, far}
 use Rattle.fuses.specs.Bounds.{BoundsOf, without_ended, first_begin, last_end}
 use Rattle.fuses.specs.Sharing.{sharing, shared_by, Smallest, Most}
-use Rattle.fuses.specs.Lemmas.Readings.{shared_is as counted}
+use Rattle.fuses.specs.Lemmas.Readings.{count_at_most, shared_is as counted}
 
 -- at least the first so many pass
 count_some : {X : Type 0} (p : X → Bool) (xs : List X) (m : ℕ) → m ≤ length xs → AllWithin (λ y. p y ≡ true) xs 0 m → m ≤ count_by p xs
@@ -73,17 +73,6 @@ find_passes p (y ∷ xs) x e = by (p y) refl (find_passes p xs x)
     by true q rest = let same : ◌≡◌ {A = Option ℕ} (Some y) (Some x) = sym (ap (λ b. cond b (Some y) (find p xs)) q) ∙ e in cc
     by false q rest = rest (sym (ap (λ b. cond b (Some y) (find p xs)) q) ∙ e)
 
--- where one test passes so does the other
-count_weaker : (p q : ℕ → Bool) (xs : List ℕ) → ((x : ℕ) → cond (p x) 1 0 ≤ cond (q x) 1 0) → count_by p xs ≤ count_by q xs
-count_weaker p q [] weaker = omega arith
-count_weaker p q (x ∷ xs) weaker = let rest = count_weaker p q xs weaker in omega (arith, weaker x, sum_by-cons (λ y. cond (p y) 1 0) x xs, sum_by-cons (λ y. cond (q y) 1 0) x xs)
-
-ended_more : (s t : ℕ) → s ≤ t → (x : ℕ) → cond (ltb x s) 1 0 ≤ cond (ltb x t) 1 0
-ended_more s t h x = grind (arith, nat_tests)
-
-begun_more : (s t : ℕ) → s ≤ t → (x : ℕ) → cond (leb x s) 1 0 ≤ cond (leb x t) 1 0
-begun_more s t h x = grind (arith, nat_tests)
-
 module _ (begins ends : List ℕ) (begins_rise : IsNonDecreasing begins) (ends_rise : IsNonDecreasing ends) where
   abbrev shares : ℕ → ℕ
   shares = shared_by begins ends
@@ -111,7 +100,7 @@ module _ (begins ends : List ℕ) (begins_rise : IsNonDecreasing begins) (ends_r
       enough =
           let at = get_or begins k 0 in
           let begun_there = count_some (λ n. leb n at) begins (k + 1) (omega (arith, within)) (λ j d l g. le-leb (get_or begins j d) at (omega (arith, begins_rise j k d (omega arith) within, get_or_default_zero begins k d within))) in
-          let ended_there = count_weaker (λ n. ltb n at) (λ n. ltb n time) ends (ended_more at time early) in
+          let ended_there = count_at_most (λ n. ltb n at) (λ n. ltb n time) ends (λ n c e. lt-ltb n time (omega (arith, ltb-true n at e, early))) in
           omega arith
 
   -- the first to end at a time or after it: as many share that end
@@ -137,7 +126,7 @@ module _ (begins ends : List ℕ) (begins_rise : IsNonDecreasing begins) (ends_r
       enough =
           let at = get_or ends k 0 in
           let ended_there = count_few (λ n. ltb n at) ends k (λ j d l g. le-ltb (get_or ends j d) at (omega (arith, ends_rise k j d l g, get_or_default_zero ends k d within))) in
-          let begun_there = count_weaker (λ n. leb n time) (λ n. leb n at) begins (begun_more time at late) in
+          let begun_there = count_at_most (λ n. leb n time) (λ n. leb n at) begins (λ n c e. le-leb n at (omega (arith, leb-true n time e, late))) in
           omega arith
 
 -- the last so many of a list, from its end

@@ -11,14 +11,16 @@ use Rattle.clocks.specs.declared.interval.Interval.{Interval}
 use Rattle.fuses.specs.declared.fuse.bounds.Bounds.{Bounds}
 use Rattle.fuses.specs.Sharing.{shared_by}
 
--- in any order: 115 and 110 are where [100, 110], [105, 115] end
+-- in any order: of [100, 110], [105, 115], [300, 310] the ends may stand as 310, 110, 115
 pub record BoundsOf (is : List Interval) (begins ends : List ℕ) : Type 0 where
   pub begun : IsPermutation (map (λ i. i.earliest) is) begins
   pub ended : IsPermutation (map (λ i. i.latest) is) ends
 
+-- those three readings begin at 100, 105, 300 and end at 110, 115, 310
 abbrev pub HasBounds : List Interval → Bounds → Type 0
 HasBounds is bounds = BoundsOf is bounds.begins.times.items bounds.ends.times.items
 
+-- at 112 two have begun, and one has ended before: 1
 abbrev pub shared_in : Bounds → ℕ → ℕ
 shared_in bounds time = shared_by bounds.begins.times.items bounds.ends.times.items time
 
@@ -27,7 +29,7 @@ abbrev pub without_ended : List ℕ → ℕ → List ℕ
 without_ended [] time = []
 without_ended (end ∷ ends) time = cond (nat_lt end time) ends (end ∷ ends)
 
--- of [100, 110], [105, 115], [300, 310] and need 2: 105; the first beginning, 100, is passed over
+-- of those three and need 2: 105; the first beginning, 100, is passed over
 abbrev pub first_begin : ℕ → List ℕ → List ℕ → Option ℕ
 first_begin need begins ends = find (λ time. nat_le need (shared_by begins ends time)) (drop (need - 1) begins)
 

@@ -23,7 +23,7 @@ one_at_most true b h = subst (λ x. 1 ≤ cond x 1 0) (sym (h refl)) (omega arit
 one_at_most false b h = omega arith
 
 -- where each that passes one test passes another, no more pass the one
-count_at_most : (p q : ℕ → Bool) (xs : List ℕ) → ((x : ℕ) → Contains xs x → p x ≡ true → q x ≡ true) → count_by p xs ≤ count_by q xs
+pub count_at_most : (p q : ℕ → Bool) (xs : List ℕ) → ((x : ℕ) → Contains xs x → p x ≡ true → q x ≡ true) → count_by p xs ≤ count_by q xs
 count_at_most p q [] all = omega arith
 count_at_most p q (x ∷ xs) all =
     let first = one_at_most (p x) (q x) (all x (0, omega arith, refl)) in

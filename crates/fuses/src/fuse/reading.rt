@@ -33,6 +33,7 @@ impl<B: Bank> Fuse<B> {
         ensures meaning { Means B.Bank result }
         ensures tolerates { Tolerates B.Bank result }
     {
+        // No reading yet: `restart` works it out.
         let mut fuse = Fuse {
             bank,
             tolerated,

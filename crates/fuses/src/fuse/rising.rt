@@ -7,7 +7,7 @@ use arrayvec::ArrayVec;
 // As many as a bank has at most, so that an instant needs no memory from outside.
 const MOST_MEMBERS: usize = 255;
 
-// No `Model`: that they rise is what is found among them rests on, and a value would not show it.
+// No `Model`: what is found among them rests on that they rise, which a value would not show.
 #[derive(Drop)]
 pub(super) struct Rising {
     pub(super) times: ArrayVec<u64, MOST_MEMBERS>,
