@@ -6,6 +6,7 @@ ghost use Rattle.rows.specs.Limits.{channels};
 
 #[cfg(test)]
 mod clock_tests;
+pub mod lent;
 pub mod silent;
 pub mod worked;
 

@@ -33,7 +33,7 @@ pub trait Bank {
         ensures { self.new ≡ fresh self.old };
 
     fn advance(&mut self, row: &Row)
-        ensures { self.new ≡ next self.old row.now };
+        ensures { self.new ≡ next self.old row.now.pairs };
 
     // One member's reading; a number that names no member is unheard.
     fn query(&self, member: u8) -> Result<Interval, Fault>

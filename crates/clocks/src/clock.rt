@@ -26,7 +26,7 @@ pub trait Clock {
         ensures { self.new ≡ fresh self.old };
 
     fn advance(&mut self, row: &Row)
-        ensures { self.new ≡ next self.old row.now };
+        ensures { self.new ≡ next self.old row.now.pairs };
 
     fn query(&self) -> Result<Interval, Fault>
         ensures { result ≡ reading self.now };

@@ -1,24 +1,14 @@
 // A row: a pair of times on each of the sixteen channels.
+ghost use Rattle.rows.specs.Limits.{Timely};
+
 use crate::channel::CHANNELS;
 use crate::pair::Pair;
-use std::marker::Model;
 
 mod setting;
 
+// No `Model`: its invariant would be hidden from whoever is lent a row.
 #[derive(Drop)]
 pub struct Row {
     pairs: [Pair; CHANNELS],
-}
-
-// A contract sees a row as its pairs, by their channels.
-impl Model for Row {
-    ghost use Rattle.std.specs.Prelude.{List};
-    ghost use Rattle.rows.specs.declared.pair.Pair.{Pair};
-    ghost use Rattle.rows.specs.Limits.{Timely};
-
-    ghost Value = { List Pair };
-
-    ghost view = { λ row. row.pairs };
-
-    ghost invariant = { λ row. Timely row.pairs };
+    ghost within: { Timely pairs },
 }

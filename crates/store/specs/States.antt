@@ -1,5 +1,6 @@
 -- The state of a store, and what each call of it answers and leaves.
---   State          what a store is: the clocks, and the pairs of the row
+--   State          the clocks, and the pairs of the row
+--   state_of       the state that a store is in
 --   most_shards    how many shards a store has at most
 --   shards         how many shards stand over a bank
 --   clock_answer   a clock's reading, as a store answers it
@@ -17,10 +18,14 @@ use Rattle.rows.specs.Rows.{nothing_set, after_setting}
 use Rattle.clocks.specs.declared.bank.Bank.{Ghosts as Bank}
 use Rattle.clocks.specs.declared.interval.Interval.{Interval}
 use Rattle.clocks.specs.Intervals.{Reading}
+use Rattle.store.specs.declared.store.Store.{Store}
 
 pub record State (B : Type 0) : Type 0 where
   pub clocks : B
   pub pairs : List Pair
+
+abbrev pub state_of : {B : Type 0} → Store B → State B
+state_of store = record { clocks = store.clocks; pairs = store.row.pairs }
 
 abbrev pub most_shards : ℕ
 most_shards = 8

@@ -19,7 +19,7 @@ fn unheard(channel: Channel) -> Fault
 }
 
 fn heard(row: &Row, channel: Channel) -> Result<Interval, Fault>
-    ensures { result ≡ heard_on row.now channel.index }
+    ensures { result ≡ heard_on row.now.pairs channel.index }
 {
     let pair = row.pair(channel);
     Interval::new(pair.first, pair.second).ok_or(unheard(channel))

@@ -77,7 +77,7 @@ impl<B: Bank> Clock for Fuse<B> {
 
     #[tactic(auto, using(crate::specs::Lemmas::Fuses::fuse_means))]
     fn advance(&mut self, row: &Row)
-        ensures after { self.new ≡ fuse_next B.Bank self.old row.now }
+        ensures after { self.new ≡ fuse_next B.Bank self.old row.now.pairs }
         ensures meaning { Means B.Bank self.new }
     {
         self.bank.advance(row);

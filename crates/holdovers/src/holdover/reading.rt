@@ -17,7 +17,7 @@ use rows::time::Time;
 
 // The count on the channel, if its pair is one.
 fn heard_count(row: &Row, channel: Channel) -> Option<Time>
-    ensures { result ≡ count_on row.now channel.index }
+    ensures { result ≡ count_on row.now.pairs channel.index }
 {
     let pair = row.pair(channel);
     Time::new(pair.first).filter(|first| first.value() == pair.second)

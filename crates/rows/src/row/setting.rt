@@ -18,7 +18,7 @@ const UNSET: Pair = Pair {
 impl Row {
     // Nothing is set on any channel.
     pub fn new() -> Row
-        ensures { result ≡ nothing_set }
+        ensures { result.pairs ≡ nothing_set }
     {
         Row {
             pairs: [UNSET; CHANNELS],
@@ -27,7 +27,7 @@ impl Row {
 
     pub fn set(&mut self, channel: u8, pair: Pair) -> Result<(), Refusal>
         ensures answer { result ≡ setting channel pair }
-        ensures after { self.new ≡ after_setting self.old channel pair }
+        ensures after { self.new.pairs ≡ after_setting self.old.pairs channel pair }
     {
         let place = Channel::try_from(channel)?.index();
         Time::new(pair.first)
@@ -38,7 +38,7 @@ impl Row {
     }
 
     pub fn pair(&self, channel: Channel) -> Pair
-        ensures value { result ≡ pair_on self.now channel.index }
+        ensures value { result ≡ pair_on self.now.pairs channel.index }
         ensures in_range { InRange result }
     {
         self.pairs[channel.index()]
@@ -46,7 +46,7 @@ impl Row {
 
     // Every pair returns to unset, as it does after an instant.
     pub fn clear(&mut self)
-        ensures { self.new ≡ nothing_set }
+        ensures { self.new.pairs ≡ nothing_set }
     {
         self.pairs = [UNSET; CHANNELS];
     }

@@ -1,7 +1,7 @@
 // How a store is made, set, advanced and queried.
 ghost use Rattle.std.specs.Prelude.{◌≡◌};
 ghost use Rattle.rows.specs.Rows.{setting};
-ghost use Rattle.store.specs.States.{shards, fresh_state, after_set, after_instant, queried};
+ghost use Rattle.store.specs.States.{state_of, shards, fresh_state, after_set, after_instant, queried};
 
 use super::Store;
 use clocks::bank::Bank;
@@ -15,7 +15,7 @@ const MOST_SHARDS: u8 = 8;
 impl<B: Bank> Store<B> {
     // A fresh store; every clock is made fresh first.
     pub fn new(mut clocks: B) -> Store<B>
-        ensures { result ≡ fresh_state B.Bank clocks }
+        ensures { state_of result ≡ fresh_state B.Bank clocks }
     {
         clocks.restart();
         Store {
@@ -27,14 +27,14 @@ impl<B: Bank> Store<B> {
     // Sets the pair of a channel.
     pub fn set(&mut self, channel: u8, pair: Pair) -> Result<(), Refusal>
         ensures answer { result ≡ setting channel pair }
-        ensures after { self.new ≡ after_set self.old channel pair }
+        ensures after { state_of self.new ≡ after_set (state_of self.old) channel pair }
     {
         self.row.set(channel, pair)
     }
 
     // Every clock advances by the row, and then the row is cleared.
     pub fn instant(&mut self)
-        ensures { self.new ≡ after_instant B.Bank self.old }
+        ensures { state_of self.new ≡ after_instant B.Bank (state_of self.old) }
     {
         self.clocks.advance(&self.row);
         self.row.clear();
@@ -42,7 +42,7 @@ impl<B: Bank> Store<B> {
 
     // What the shard's clock reads.
     pub fn query(&self, shard: u8) -> Result<Interval, Refusal>
-        ensures { result ≡ queried B.Bank self.now shard }
+        ensures { result ≡ queried B.Bank (state_of self.now) shard }
     {
         if shard >= self.shards() {
             return Err(Refusal::NoShard);
