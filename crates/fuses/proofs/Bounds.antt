@@ -1,24 +1,22 @@
 -- What is found among where readings begin and where they end is what the readings fuse to.
-use Rattle.std.proofs.Common.{◌≡◌, ℕ, zero, suc, ◌+◌, ◌-◌, ◌<◌, ◌≤◌, Bool, true, false, cond, ltb, leb, ◌⊎◌, List, [], ◌∷◌, reverse, length, get_or, drop, fold, find, All, Some, None, Option, count_by, MatchOption, inl, inr, refl, sym, ap, ◌∙◌, subst, arith}
+use Rattle.std.proofs.Common.{◌≡◌, ℕ, zero, suc, ◌+◌, ◌-◌, ◌<◌, ◌≤◌, Bool, true, false, cond, ltb, leb, ◌⊎◌, List, [], ◌∷◌, length, get_or, drop, fold, All, Some, None, Option, count_by, MatchOption, inl, inr, refl, sym, ap, ◌∙◌, subst, arith}
 use Rattle.std.specs.List.{AllWithin}
-use denote.Param.Members.{Mut}
-use denote.Ref.{Bor}
-use Rattle.std.specs.Fn.{Called, ComputesKey}
-use Rattle.std.specs.List.Sorted.{IsNonDecreasing, IsPartitionedBy, IsPartitionPoint}
-use Rattle.std.proofs.lemmas.List.{get_or-drop, get_or-reverse, length-reverse, length-drop, length-map}
+use Rattle.std.specs.List.Sorted.{IsNonDecreasing}
+use Rattle.std.proofs.lemmas.List.{get_or-drop, drop_more, length-drop, length-map}
+use Rattle.std.proofs.Math.ListN.{drop_of_length-le}
 use Rattle.std.proofs.lemmas.Grind.{get_or_default_zero}
-use Rattle.std.proofs.lemmas.List.Sorted.{All-permutation, length_permutation, IsPartitionPoint-from_clause}
+use Rattle.std.proofs.lemmas.List.Sorted.{All-permutation, length_permutation}
 use Rattle.std.proofs.lemmas.List.Sums.{sum_by-cons, count_by-le-length}
-use Rattle.std.proofs.lemmas.Bool.{leb-true, le-leb, lt-leb, le-ltb, lt-ltb, ltb-true, ltb-false, cases_lt}
+use Rattle.std.proofs.lemmas.Bool.{le-leb, lt-leb, le-ltb, lt-ltb, ltb-false, cases_lt}
 use Rattle.std.proofs.lemmas.List.Elements.{All-map, All-head}
 use Rattle.std.proofs.lemmas.Bool.Decides.{nat_tests}
 use Rattle.rows.specs.Limits.{last_time}
 use Rattle.clocks.specs.declared.interval.Interval.{Interval}
-use Rattle.clocks.specs.Intervals.{span}
+use Rattle.clocks.specs.Intervals.{span as span_between}
 use Rattle.clocks.specs.Lemmas.Spans.{spanning, spanned, backwards, far}
-use Rattle.fuses.specs.Bounds.{BoundsOf, without_ended, first_begin, last_end}
+use Rattle.fuses.specs.Bounds.{BoundsOf, without_ended, stretched}
 use Rattle.fuses.specs.Sharing.{sharing, shared_by, Smallest, Most}
-use Rattle.fuses.specs.Lemmas.Readings.{count_at_most, shared_is as counted}
+use Rattle.fuses.specs.Lemmas.Readings.{shared_is as counted}
 
 -- at least the first so many pass
 count_some : {X : Type 0} (p : X → Bool) (xs : List X) (m : ℕ) → m ≤ length xs → AllWithin (λ y. p y ≡ true) xs 0 m → m ≤ count_by p xs
@@ -43,95 +41,8 @@ count_few p (x ∷ xs) (suc m) fail =
     let here : cond (p x) 1 0 ≤ 1 = grind (arith, nat_tests) in
     omega (arith, rest, here, sum_by-cons (λ y. cond (p y) 1 0) x xs)
 
--- where a list parts is how many pass, by the clause of `partition_point` at a slice that has these times
-pub counts_at_point : (passes : ℕ → Bool) {F : Type 0} {g : Mut F (Bor ℕ × Unit {0}) Bool} {f : F} (found times : List ℕ) (i : ℕ) → found ≡ times → i ≤ length found → ((q : ℕ → Bool) → ComputesKey g q f → IsPartitionedBy q found → IsPartitionPoint (λ y. q y ≡ true) (λ y. q y ≡ false) found i) → IsPartitionedBy passes times → ((a : Bor ℕ × Unit {0}) (r : Bool) (f' : F) → Called g f a r f' → (r ≡ passes a.0.now) × (f' ≡ f)) → i ≡ count_by passes times
-counts_at_point passes found times i same h clause parted calls =
-    let at = IsPartitionPoint-from_clause passes found i clause (subst (IsPartitionedBy passes) (sym same) parted) calls in
-    let some = count_some passes found i h at.0 in
-    let few = count_few passes found i at.1 in
-    let count : i ≡ count_by passes found = omega arith in
-    count ∙ ap (count_by passes) same
-
 shared_is : (is : List Interval) (begins ends : List ℕ) → BoundsOf is begins ends → (time : ℕ) → shared_by begins ends time ≡ sharing is time
 shared_is is begins ends of time = ap (λ shares. shares time) (counted is begins ends of.begun of.ended)
-
--- where one passes, the first that does is no later
-first_found : (p : ℕ → Bool) (xs : List ℕ) (k d : ℕ) → k < length xs → p (get_or xs k d) ≡ true → (i : ℕ) × (i ≤ k) × (find p xs ≡ Some (get_or xs i d)) × (p (get_or xs i d) ≡ true)
-first_found p [] k d h e = absurd (omega arith)
-first_found p (x ∷ xs) k d h e = by (p x) refl k h e (first_found p xs)
-  where
-    by : (b : Bool) → p x ≡ b → (k : ℕ) → k < length (x ∷ xs) → p (get_or (x ∷ xs) k d) ≡ true → ((k d : ℕ) → k < length xs → p (get_or xs k d) ≡ true → (i : ℕ) × (i ≤ k) × (find p xs ≡ Some (get_or xs i d)) × (p (get_or xs i d) ≡ true)) → (i : ℕ) × (i ≤ k) × (find p (x ∷ xs) ≡ Some (get_or (x ∷ xs) i d)) × (p (get_or (x ∷ xs) i d) ≡ true)
-    by true q k h e rest = (0, omega arith, ap (λ b. cond b (Some x) (find p xs)) q, q)
-    by false q zero h e rest = absurd (cc)
-    by false q (suc k) h e rest = let r = rest k d (omega arith) e in (suc r.0, omega (arith, r.1), ap (λ b. cond b (Some x) (find p xs)) q ∙ r.2, r.3)
-
-find_passes : (p : ℕ → Bool) (xs : List ℕ) (x : ℕ) → find p xs ≡ Some x → p x ≡ true
-find_passes p [] x e = absurd (cc)
-find_passes p (y ∷ xs) x e = by (p y) refl (find_passes p xs x)
-  where
-    by : (b : Bool) → p y ≡ b → (find p xs ≡ Some x → p x ≡ true) → p x ≡ true
-    by true q rest = let same : ◌≡◌ {A = Option ℕ} (Some y) (Some x) = sym (ap (λ b. cond b (Some y) (find p xs)) q) ∙ e in cc
-    by false q rest = rest (sym (ap (λ b. cond b (Some y) (find p xs)) q) ∙ e)
-
-module _ (begins ends : List ℕ) (begins_rise : IsNonDecreasing begins) (ends_rise : IsNonDecreasing ends) where
-  abbrev shares : ℕ → ℕ
-  shares = shared_by begins ends
-
-  -- the last to begin at a time or before it: as many share that beginning
-  at_begin : (time : ℕ) → 1 ≤ shares time → (k : ℕ) × (shares time ≤ k + 1) × (k < length begins) × (get_or begins k 0 ≤ time) × (shares time ≤ shares (get_or begins k 0))
-  at_begin time some = (k, omega arith, within, early, enough)
-    where
-      begun : ℕ
-      begun = count_by (λ n. leb n time) begins
-
-      k : ℕ
-      k = begun - 1
-
-      within : k < length begins
-      within = omega (arith, count_by-le-length (λ n. leb n time) begins)
-
-      early : get_or begins k 0 ≤ time
-      early = elim (cases_lt time (get_or begins k 0)) [
-        | inr h ↦ h
-        | inl h ↦ let few = count_few (λ n. leb n time) begins k (λ j d l g. lt-leb (get_or begins j d) time (omega (arith, begins_rise k j d l g, get_or_default_zero begins k d within))) in absurd (omega arith)
-      ]
-
-      enough : shares time ≤ shares (get_or begins k 0)
-      enough =
-          let at = get_or begins k 0 in
-          let begun_there = count_some (λ n. leb n at) begins (k + 1) (omega (arith, within)) (λ j d l g. le-leb (get_or begins j d) at (omega (arith, begins_rise j k d (omega arith) within, get_or_default_zero begins k d within))) in
-          let ended_there = count_at_most (λ n. ltb n at) (λ n. ltb n time) ends (λ n c e. lt-ltb n time (omega (arith, ltb-true n at e, early))) in
-          omega arith
-
-  -- the first to end at a time or after it: as many share that end
-  at_end : length begins ≡ length ends → (time : ℕ) → 1 ≤ shares time → (k : ℕ) × (k + shares time ≤ length ends) × (time ≤ get_or ends k 0) × (shares time ≤ shares (get_or ends k 0))
-  at_end as_many time some = (k, room, late, enough)
-    where
-      k : ℕ
-      k = count_by (λ n. ltb n time) ends
-
-      room : k + shares time ≤ length ends
-      room = omega (arith, count_by-le-length (λ n. leb n time) begins)
-
-      within : k < length ends
-      within = omega (arith, room)
-
-      late : time ≤ get_or ends k 0
-      late = elim (cases_lt (get_or ends k 0) time) [
-        | inr h ↦ h
-        | inl h ↦ let more = count_some (λ n. ltb n time) ends (k + 1) (omega (arith, within)) (λ j d l g. lt-ltb (get_or ends j d) time (omega (arith, ends_rise j k d (omega arith) within, get_or_default_zero ends k d within))) in absurd (omega arith)
-      ]
-
-      enough : shares time ≤ shares (get_or ends k 0)
-      enough =
-          let at = get_or ends k 0 in
-          let ended_there = count_few (λ n. ltb n at) ends k (λ j d l g. le-ltb (get_or ends j d) at (omega (arith, ends_rise k j d l g, get_or_default_zero ends k d within))) in
-          let begun_there = count_at_most (λ n. leb n time) (λ n. leb n at) begins (λ n c e. le-leb n at (omega (arith, leb-true n time e, late))) in
-          omega arith
-
--- the last so many of a list, from its end
-reversed_at : (xs : List ℕ) (m i : ℕ) → m + i < length xs → get_or (drop m (reverse xs)) i 0 ≡ get_or xs (length xs - 1 - (m + i)) 0
-reversed_at xs m i h = get_or-drop m (reverse xs) i 0 ∙ get_or-reverse xs (m + i) 0 h
 
 as_many : (is : List Interval) (begins ends : List ℕ) → BoundsOf is begins ends → length begins ≡ length ends
 as_many is begins ends of = omega (arith, length_permutation _ begins of.begun, length_permutation _ ends of.ended, length-map is (λ i. i.earliest), length-map is (λ i. i.latest))
@@ -139,70 +50,210 @@ as_many is begins ends of = omega (arith, length_permutation _ begins of.begun, 
 timely : (is : List Interval) (begins ends : List ℕ) → BoundsOf is begins ends → All (λ t. t ≤ last_time) ends
 timely is begins ends of = All-permutation (λ t. t ≤ last_time) _ ends of.ended (All-map (λ t. t ≤ last_time) (λ i. i.latest) is (λ k d h. (get_or is k d).within))
 
-module _ (is : List Interval) (begins ends : List ℕ) (of : BoundsOf is begins ends) (begins_rise : IsNonDecreasing begins) (ends_rise : IsNonDecreasing ends) where
+module _ (is : List Interval) (begins ends : List ℕ) (of : BoundsOf is begins ends) (begins_rise : IsNonDecreasing begins) (ends_rise : IsNonDecreasing ends) (need : ℕ) (one : 1 ≤ need) where
   same : (time : ℕ) → shared_by begins ends time ≡ sharing is time
   same = shared_is is begins ends of
 
-  module _ (need : ℕ) (one : 1 ≤ need) where
-    abbrev enough : ℕ → Bool
-    enough time = leb need (shared_by begins ends time)
+  -- the beginning that goes with an end has begun before or at it: enough share each time from the one to the other
+  abbrev pub Meet : ℕ → Type 0
+  Meet k = get_or begins (need - 1 + k) 0 ≤ get_or ends k 0
 
-    lowest_is : (time : ℕ) → need ≤ sharing is time → (low : ℕ) × (first_begin need begins ends ≡ Some low) × (low ≤ time)
-    lowest_is time h =
-        let b = at_begin begins ends begins_rise ends_rise time (omega (arith, same time)) in
-        let m : ℕ = need - 1 in
-        let j : ℕ = b.0 - m in
-        let there : get_or (drop m begins) j 0 ≡ get_or begins b.0 0 = get_or-drop m begins j 0 ∙ ap (λ n. get_or begins n 0) (omega (arith, b.1, same time)) in
-        let passes : enough (get_or (drop m begins) j 0) ≡ true = ap enough there ∙ le-leb need _ (omega (arith, b.4, same time)) in
-        let f = first_found enough (drop m begins) j 0 (omega (arith, length-drop m begins, b.1, b.2, same time)) passes in
-        let before = begins_rise (m + f.0) b.0 0 (omega (arith, f.1, b.1, same time)) b.2 in
-        (get_or (drop m begins) f.0 0, f.2, omega (arith, get_or-drop m begins f.0 0, before, b.3))
+  abbrev pub Apart : ℕ → Type 0
+  Apart k = get_or ends k 0 < get_or begins (need - 1 + k) 0
 
-    highest_is : (time : ℕ) → need ≤ sharing is time → (high : ℕ) × (last_end need begins ends ≡ Some high) × (time ≤ high) × (high ≤ last_time)
-    highest_is time h =
-        let e = at_end begins ends begins_rise ends_rise (as_many is begins ends of) time (omega (arith, same time)) in
-        let m : ℕ = need - 1 in
-        let n : ℕ = length ends in
-        let j : ℕ = n - need - e.0 in
-        let there : get_or (drop m (reverse ends)) j 0 ≡ get_or ends e.0 0 = reversed_at ends m j (omega (arith, e.1, same time)) ∙ ap (λ k. get_or ends k 0) (omega (arith, e.1, same time)) in
-        let passes : enough (get_or (drop m (reverse ends)) j 0) ≡ true = ap enough there ∙ le-leb need _ (omega (arith, e.3, same time)) in
-        let f = first_found enough (drop m (reverse ends)) j 0 (omega (arith, length-drop m (reverse ends), length-reverse ends, e.1, same time)) passes in
-        let at : ℕ = n - 1 - (m + f.0) in
-        let where_found : get_or (drop m (reverse ends)) f.0 0 ≡ get_or ends at 0 = reversed_at ends m f.0 (omega (arith, f.1, e.1, same time)) in
-        let after = ends_rise e.0 at 0 (omega (arith, f.1, e.1, same time)) (omega (arith, f.1, e.1, same time)) in
-        let near = timely is begins ends of at 0 (omega (arith, f.1, e.1, same time)) in
-        (get_or (drop m (reverse ends)) f.0 0, f.2, omega (arith, where_found, after, e.2), omega (arith, where_found, near))
+  pair_shared : (k time : ℕ) → need - 1 + k < length begins → get_or begins (need - 1 + k) 0 ≤ time → time ≤ get_or ends k 0 → need ≤ sharing is time
+  pair_shared k time h begun ends_later =
+      let at : ℕ = need - 1 + k in
+      let within : k < length ends = omega (arith, h, as_many is begins ends of) in
+      let some = count_some (λ n. leb n time) begins (at + 1) (omega (arith, h)) (λ j d l g. le-leb (get_or begins j d) time (omega (arith, begins_rise j at d (omega arith) h, get_or_default_zero begins at d h, begun))) in
+      let few = count_few (λ n. ltb n time) ends k (λ j d l g. le-ltb (get_or ends j d) time (omega (arith, ends_rise k j d l g, get_or_default_zero ends k d within, ends_later))) in
+      omega (arith, some, few, same time, one)
 
-    pub none_lowest : first_begin need begins ends ≡ None → (time : ℕ) → sharing is time < need
-    none_lowest e time = elim (cases_lt (sharing is time) need) [ inl few ↦ few | inr h ↦ absurd (let low = lowest_is time h in let no : None ≡ Some low.0 = sym e ∙ low.1 in cc) ]
+  shared_pair : (time : ℕ) → need ≤ sharing is time → (k : ℕ) × (need - 1 + k < length begins) × (get_or begins (need - 1 + k) 0 ≤ time) × (time ≤ get_or ends k 0)
+  shared_pair time enough = (k, there, begun, ends_later)
+    where
+      k : ℕ
+      k = count_by (λ n. ltb n time) ends
 
-    pub none_highest : last_end need begins ends ≡ None → (time : ℕ) → sharing is time < need
-    none_highest e time = elim (cases_lt (sharing is time) need) [ inl few ↦ few | inr h ↦ absurd (let high = highest_is time h in let no : None ≡ Some high.0 = sym e ∙ high.1 in cc) ]
+      at : ℕ
+      at = need - 1 + k
 
-    module _ (low high : ℕ) (lowest : first_begin need begins ends ≡ Some low) (highest : last_end need begins ends ≡ Some high) where
-      low_enough : need ≤ sharing is low
-      low_enough = omega (arith, same low, leb-true need _ (find_passes enough (drop (need - 1) begins) low lowest))
+      counted_there : at < count_by (λ n. leb n time) begins
+      counted_there = omega (arith, enough, same time, one)
 
-      high_enough : need ≤ sharing is high
-      high_enough = omega (arith, same high, leb-true need _ (find_passes enough (drop (need - 1) (reverse ends)) high highest))
+      there : at < length begins
+      there = omega (arith, counted_there, count_by-le-length (λ n. leb n time) begins)
 
-      over : (time : ℕ) → need ≤ sharing is time → (low ≤ time) × (time ≤ high) × (high ≤ last_time)
-      over time h =
-          let l = lowest_is time h in
-          let g = highest_is time h in
-          let low_same : ◌≡◌ {A = Option ℕ} (Some low) (Some l.0) = sym lowest ∙ l.1 in
-          let high_same : ◌≡◌ {A = Option ℕ} (Some high) (Some g.0) = sym highest ∙ g.1 in
-          let low_is : low ≡ l.0 = cc in
-          let high_is : high ≡ g.0 = cc in
-          (omega (arith, low_is, l.2), omega (arith, high_is, g.2), omega (arith, high_is, g.3))
+      within : k < length ends
+      within = omega (arith, there, as_many is begins ends of)
 
-      pub spans : MatchOption (span low high) ((time : ℕ) → sharing is time < need) (Smallest need (sharing is))
-      spans =
-          elim (spanning low high) as (λ o _. MatchOption o ((time : ℕ) → sharing is time < need) (Smallest need (sharing is))) [
-            | spanned p q ↦ record { some = (low, low_enough); all = λ time h. let o = over time h in (o.0, o.1); none_smaller = λ other all. ((all low low_enough).0, (all high high_enough).1) }
-            | backwards h ↦ absurd (let o = over low low_enough in omega (arith, o.1))
-            | far h ↦ absurd (let o = over low low_enough in omega (arith, o.2))
-          ]
+      begun : get_or begins at 0 ≤ time
+      begun = elim (cases_lt time (get_or begins at 0)) [
+        | inr h ↦ h
+        | inl h ↦ let few = count_few (λ n. leb n time) begins at (λ j d l g. lt-leb (get_or begins j d) time (omega (arith, h, begins_rise at j d l g, get_or_default_zero begins at d there))) in absurd (omega (arith, few, counted_there))
+      ]
+
+      ends_later : time ≤ get_or ends k 0
+      ends_later = elim (cases_lt (get_or ends k 0) time) [
+        | inr h ↦ h
+        | inl h ↦ let more = count_some (λ n. ltb n time) ends (k + 1) (omega (arith, within)) (λ j d l g. lt-ltb (get_or ends j d) time (omega (arith, h, ends_rise j k d (omega arith) within, get_or_default_zero ends k d within))) in absurd (omega (arith, more))
+      ]
+
+  -- where no pair meets, too few share each time
+  pub none_met : (j : ℕ) → length begins ≤ need - 1 + j → ((k : ℕ) → k < j → Apart k) → (time : ℕ) → sharing is time < need
+  none_met j all apart time =
+      elim (cases_lt (sharing is time) need) [
+        | inl few ↦ few
+        | inr h ↦ let p = shared_pair time h in absurd (omega (arith, apart p.0 (omega (arith, all, p.1)), p.2, p.3))
+      ]
+
+  -- from where the first pair meets to where the last one does
+  module _ (j first last : ℕ) (all : length begins ≤ need - 1 + j) (first_in : need - 1 + first < length begins) (last_in : need - 1 + last < length begins) (first_meets : Meet first) (last_meets : Meet last) (none_before : (k : ℕ) → k < first → Apart k) (none_after : (k : ℕ) → last < k → k < j → Apart k) where
+    abbrev low : ℕ
+    low = get_or begins (need - 1 + first) 0
+
+    abbrev high : ℕ
+    high = get_or ends last 0
+
+    low_enough : need ≤ sharing is low
+    low_enough = pair_shared first low first_in (omega arith) first_meets
+
+    high_enough : need ≤ sharing is high
+    high_enough = pair_shared last high last_in last_meets (omega arith)
+
+    high_near : high ≤ last_time
+    high_near = timely is begins ends of last 0 (omega (arith, last_in, as_many is begins ends of))
+
+    over : (time : ℕ) → need ≤ sharing is time → (low ≤ time) × (time ≤ high)
+    over time h =
+        let p = shared_pair time h in
+        let after : first ≤ p.0 = elim (cases_lt p.0 first) [ inr g ↦ g | inl g ↦ absurd (omega (arith, none_before p.0 g, p.2, p.3)) ] in
+        let before : p.0 ≤ last = elim (cases_lt last p.0) [ inr g ↦ g | inl g ↦ absurd (omega (arith, none_after p.0 g (omega (arith, all, p.1)), p.2, p.3)) ] in
+        let ends_in : last < length ends = omega (arith, last_in, as_many is begins ends of) in
+        (omega (arith, begins_rise (need - 1 + first) (need - 1 + p.0) 0 (omega (arith, after)) p.1, p.2), omega (arith, ends_rise p.0 last 0 before ends_in, p.3))
+
+    pub spans : MatchOption (span_between low high) ((time : ℕ) → sharing is time < need) (Smallest need (sharing is))
+    spans =
+        elim (spanning low high) as (λ o _. MatchOption o ((time : ℕ) → sharing is time < need) (Smallest need (sharing is))) [
+          | spanned p q ↦ record { some = (low, low_enough); all = over; none_smaller = λ other all. ((all low low_enough).0, (all high high_enough).1) }
+          | backwards h ↦ absurd (let o = over low low_enough in omega (arith, o.1, h))
+          | far h ↦ absurd (omega (arith, high_near, h))
+        ]
+
+-- what is left of a list, one step on
+pub drop_next : (xs left rest : List ℕ) (j x : ℕ) → left ≡ drop j xs → left ≡ x ∷ rest → (j < length xs) × (get_or xs j 0 ≡ x) × (rest ≡ drop (j + 1) xs)
+drop_next xs left rest j x at is =
+    elim (cases_lt j (length xs)) [
+      | inl h ↦ let same : x ∷ rest ≡ get_or xs j 0 ∷ drop (j + 1) xs = sym is ∙ at ∙ drop_more xs j 0 h in (h, cc, cc)
+      | inr h ↦ absurd (let none : x ∷ rest ≡ [] = sym is ∙ at ∙ drop_of_length-le xs h in cc)
+    ]
+
+pub drop_ended : (xs left : List ℕ) (j : ℕ) → left ≡ drop j xs → length left ≡ 0 → length xs ≤ j
+drop_ended xs left j at none = omega (arith, ap length at, length-drop j xs)
+
+-- among the pairs so far of a beginning and an end, the first that meets, and the last
+pub record Met (later ends : List ℕ) (j first last : ℕ) : Type 0 where
+  pub first_in : first < length later
+  pub last_in : last < length later
+  pub first_meets : get_or later first 0 ≤ get_or ends first 0
+  pub last_meets : get_or later last 0 ≤ get_or ends last 0
+  pub none_before : (k : ℕ) → k < first → get_or ends k 0 < get_or later k 0
+  pub none_after : (k : ℕ) → last < k → k < j → get_or ends k 0 < get_or later k 0
+
+abbrev pub NoneMet : List ℕ → List ℕ → ℕ → Type 0
+NoneMet later ends j = (k : ℕ) → k < j → get_or ends k 0 < get_or later k 0
+
+abbrev pub SomeMet : List ℕ → List ℕ → ℕ → Option (ℕ × ℕ) → Type 0
+SomeMet later ends j span = (first : ℕ) × (last : ℕ) × (span ≡ Some (get_or later first 0, get_or ends last 0)) × Met later ends j first last
+
+abbrev pub Walked : List ℕ → List ℕ → ℕ → Option (ℕ × ℕ) → Type 0
+Walked later ends j span = ((span ≡ None) × NoneMet later ends j) ⊎ SomeMet later ends j span
+
+module _ (later ends : List ℕ) (j begin end : ℕ) (here : j < length later) (at_begin : get_or later j 0 ≡ begin) (at_end : get_or ends j 0 ≡ end) where
+  -- what is so of each before and of this one
+  one_more : (P : ℕ → Type 0) → ((k : ℕ) → k < j → P k) → P j → (k : ℕ) → k < j + 1 → P k
+  one_more P before now k h = elim (cases_lt k j) [ inl g ↦ before k g | inr g ↦ let same : j ≡ k = omega arith in subst P same now ]
+
+  pub walked_met : (span : Option (ℕ × ℕ)) → begin ≤ end → Walked later ends j span → Walked later ends (j + 1) (Some (stretched span begin end))
+  walked_met span meets walked =
+      elim walked [
+        | inl none ↦ inr (j, j, ap (λ s. Some (stretched s begin end)) none.0 ∙ ap Some (λ i. (sym at_begin i, sym at_end i)), record { first_in = here; last_in = here; first_meets = omega arith; last_meets = omega arith; none_before = none.1; none_after = λ k h g. absurd (omega arith) })
+        | inr some ↦
+            let was = some.3 in
+            inr (some.0, j, ap (λ s. Some (stretched s begin end)) some.2 ∙ ap (λ e. Some (get_or later some.0 0, e)) (sym at_end), record { first_in = was.first_in; last_in = here; first_meets = was.first_meets; last_meets = omega arith; none_before = was.none_before; none_after = λ k h g. absurd (omega arith) })
+      ]
+
+  pub walked_apart : (span : Option (ℕ × ℕ)) → end < begin → Walked later ends j span → Walked later ends (j + 1) span
+  walked_apart span apart walked =
+      let now : get_or ends j 0 < get_or later j 0 = omega arith in
+      elim walked [
+        | inl none ↦ inl (none.0, one_more (λ k. get_or ends k 0 < get_or later k 0) none.1 now)
+        | inr some ↦
+            let was = some.3 in
+            inr (some.0, some.1, some.2, record { first_in = was.first_in; last_in = was.last_in; first_meets = was.first_meets; last_meets = was.last_meets; none_before = was.none_before; none_after = λ k h g. one_more (λ i. some.1 < i → get_or ends i 0 < get_or later i 0) (λ i b a. was.none_after i a b) (λ a. now) k g h })
+      ]
+
+-- what is left of the pairs after so many, and what those show
+pub record Paired (later ends left_later left_ends : List ℕ) (j : ℕ) (span : Option (ℕ × ℕ)) : Type 0 where
+  pub later_left : left_later ≡ drop j later
+  pub ends_left_over : left_ends ≡ drop j ends
+  pub walked : Walked later ends j span
+
+module _ {later ends left_later left_ends next_later next_ends : List ℕ} {j k begin end : ℕ} {span : Option (ℕ × ℕ)} (so : Paired later ends left_later left_ends j span) (a : left_later ≡ begin ∷ next_later) (b : left_ends ≡ end ∷ next_ends) (more : k ≡ j + 1) where
+  pub paired_met : begin ≤ end → Paired later ends next_later next_ends k (Some (stretched span begin end))
+  paired_met meets =
+      let x = drop_next later left_later next_later j begin so.later_left a in
+      let y = drop_next ends left_ends next_ends j end so.ends_left_over b in
+      subst (λ n. Paired later ends next_later next_ends n (Some (stretched span begin end))) (sym more)
+      (record { later_left = x.2; ends_left_over = y.2; walked = walked_met later ends j begin end x.0 x.1 y.1 span meets so.walked })
+
+  pub paired_apart : end < begin → Paired later ends next_later next_ends k span
+  paired_apart apart =
+      let x = drop_next later left_later next_later j begin so.later_left a in
+      let y = drop_next ends left_ends next_ends j end so.ends_left_over b in
+      subst (λ n. Paired later ends next_later next_ends n span) (sym more)
+      (record { later_left = x.2; ends_left_over = y.2; walked = walked_apart later ends j begin end x.0 x.1 y.1 span apart so.walked })
+
+module _ (is : List Interval) (begins ends : List ℕ) (of : BoundsOf is begins ends) (begins_rise : IsNonDecreasing begins) (ends_rise : IsNonDecreasing ends) (need : ℕ) (one : 1 ≤ need) where
+  pub few_begin : length begins < need - 1 → (time : ℕ) → sharing is time < need
+  few_begin few = none_met is begins ends of begins_rise ends_rise need one 0 (omega arith) (λ k h. absurd (omega arith))
+
+  -- the pairs end with the beginnings, since no fewer ends were
+  module _ {later paired_ends left_later left_ends : List ℕ} {j : ℕ} {span : Option (ℕ × ℕ)} (so : Paired later paired_ends left_later left_ends j span) (cut : later ≡ drop (need - 1) begins) (whole : paired_ends ≡ ends) (none_left : (length left_later ≡ 0) ⊎ (length left_ends ≡ 0)) where
+    shifted : (k : ℕ) → get_or later k 0 ≡ get_or begins (need - 1 + k) 0
+    shifted k = ap (λ l. get_or l k 0) cut ∙ get_or-drop (need - 1) begins k 0
+
+    as_long : length later ≡ length begins - (need - 1)
+    as_long = ap length cut ∙ length-drop (need - 1) begins
+
+    all : length begins ≤ need - 1 + j
+    all = elim none_left [
+      | inl e ↦ omega (arith, drop_ended later left_later j so.later_left e, as_long)
+      | inr e ↦ omega (arith, drop_ended paired_ends left_ends j so.ends_left_over e, ap length whole, as_many is begins ends of)
+    ]
+
+    walked_all : Walked later ends j span
+    walked_all = subst (λ es. Walked later es j span) whole so.walked
+
+    pub none_spanned : span ≡ None → (time : ℕ) → sharing is time < need
+    none_spanned e = elim walked_all [
+      | inl none ↦ none_met is begins ends of begins_rise ends_rise need one j all (λ k h. omega (arith, none.1 k h, shifted k))
+      | inr some ↦ absurd (let no : None ≡ Some (get_or later some.0 0, get_or ends some.1 0) = sym e ∙ some.2 in cc)
+    ]
+
+    spans_met : (first last : ℕ) → Met later ends j first last → MatchOption (span_between (get_or later first 0) (get_or ends last 0)) ((time : ℕ) → sharing is time < need) (Smallest need (sharing is))
+    spans_met first last met =
+        subst (λ low. MatchOption (span_between low (get_or ends last 0)) ((time : ℕ) → sharing is time < need) (Smallest need (sharing is))) (sym (shifted first))
+        (spans is begins ends of begins_rise ends_rise need one j first last all (omega (arith, met.first_in, as_long)) (omega (arith, met.last_in, as_long)) (omega (arith, met.first_meets, shifted first)) (omega (arith, met.last_meets, shifted last)) (λ k h. omega (arith, met.none_before k h, shifted k)) (λ k h g. omega (arith, met.none_after k h g, shifted k)))
+
+    pub spans_all : (low high : ℕ) → span ≡ Some (low, high) → MatchOption (span_between low high) ((time : ℕ) → sharing is time < need) (Smallest need (sharing is))
+    spans_all low high e = elim walked_all [
+      | inl none ↦ absurd (let no : None ≡ Some (low, high) = sym none.0 ∙ e in cc)
+      | inr some ↦
+          let same : ◌≡◌ {A = Option (ℕ × ℕ)} (Some (get_or later some.0 0, get_or ends some.1 0)) (Some (low, high)) = sym some.2 ∙ e in
+          let both : ◌≡◌ {A = ℕ × ℕ} (get_or later some.0 0, get_or ends some.1 0) (low, high) = cc in
+          subst (λ s. MatchOption (span_between s.0 s.1) ((time : ℕ) → sharing is time < need) (Smallest need (sharing is))) both (spans_met some.0 some.1 some.3)
+    ]
 
 -- the ends that are left where each beginning leaves one out
 abbrev pub ends_left : List ℕ → List ℕ → List ℕ

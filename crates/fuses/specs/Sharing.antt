@@ -74,7 +74,6 @@ abbrev pub highest_shared : ℕ → (ℕ → ℕ) → List ℕ → ℕ
 highest_shared need shares times = fold max 0 (filter (λ time. nat_le need (shares time)) times)
 
 -- of those three, at their beginnings and ends: [105, 110] for need 2, and that too few meet, at most 2, for need 3
--- of those three and need 2: [105, 110]; of need 3: the fault that 2 meet at most
 abbrev pub fused_from : ℕ → (ℕ → ℕ) → List ℕ → List ℕ → Reading
 fused_from need shares begins ends =
     cond (nat_le need (most_shared shares begins))

@@ -22,7 +22,7 @@ sharing_append (i ∷ xs) ys time = omega (arith, sharing_append xs ys time)
 abbrev pub first_intervals : (ℕ → Reading) → ℕ → List Interval
 first_intervals reading n = intervals_of (map reading (range_with_len 0 n))
 
-intervals_more : (reading : ℕ → Reading) (n : ℕ) → first_intervals reading (n + 1) ≡ first_intervals reading n ++ intervals_of (reading n ∷ [])
+pub intervals_more : (reading : ℕ → Reading) (n : ℕ) → first_intervals reading (n + 1) ≡ first_intervals reading n ++ intervals_of (reading n ∷ [])
 intervals_more reading n = ap intervals_of (map-range_with_len_more reading 0 n n (omega arith)) ∙ intervals_append (map reading (range_with_len 0 n)) (reading n ∷ [])
 
 pub sharing_more : (reading : ℕ → Reading) (n time : ℕ) → sharing (first_intervals reading (suc n)) time ≡ sharing (first_intervals reading n) time + sharing (intervals_of (reading n ∷ [])) time

@@ -2,25 +2,22 @@
 use Rattle.std.proofs.Common.{◌≡◌, ℕ, zero, suc, ◌+◌, ◌-◌, ◌≤◌, Bool, true, false, cond, not, ◌&&◌, ◌||◌, ltb, List, [], ◌∷◌, map, is_ok, Ok, Err, sym, refl, ap, ◌∙◌, subst, arith}
 use mathlib.Core.Path.{fun_ext}
 use Rattle.std.specs.List.{range_with_len}
-use Rattle.std.proofs.lemmas.Bool.{cond_both, and_from, leb-true, le-leb, ltb-true, or_left, or_right, lt-ltb}
+use Rattle.std.proofs.lemmas.Bool.{cond_both, leb-true, le-leb, ltb-true, or_left, or_right, lt-ltb}
 use Rattle.std.proofs.lemmas.List.Elements.{All-map}
 use Rattle.rows.specs.declared.pair.Pair.{Pair}
 use Rattle.clocks.specs.declared.bank.Bank.{Ghosts as Bank}
 use Rattle.clocks.specs.declared.interval.Interval.{Interval}
 use Rattle.clocks.specs.History.{Instant, Rising, after, NothingHeard}
-use Rattle.clocks.specs.Intervals.{Reading, within, Holds, Unread}
+use Rattle.clocks.specs.Intervals.{Reading, Holds, Unread}
 use Rattle.clocks.specs.Meaning.{Keeps, KeepsMembers}
 use Rattle.fuses.specs.declared.fuse.Fuse.{Fuse}
 use Rattle.fuses.specs.Fuses.{need, members, fuse_over, fuse_made, fuse_next, errs, erring, not_erring, fuse_truth, Means, Tolerates}
 use Rattle.fuses.specs.Sharing.{intervals_of, sharing, Fuses, fused}
 use Rattle.fuses.specs.Lemmas.Asked.{first_intervals, sharing_more, none_read}
-use Rattle.fuses.specs.Lemmas.Readings.{fused_right, fused_exactly}
+use Rattle.fuses.specs.Lemmas.Readings.{holds_within, fused_right, fused_exactly}
 
 pub need_some : (size tolerated : ℕ) → 1 ≤ need size tolerated
 need_some size tolerated = cond_both (ltb tolerated size) (size - tolerated) 1 (λ n. 1 ≤ n) (λ e. let less = ltb-true tolerated size e in omega arith) (λ e. omega arith)
-
-holds_within : (i : Interval) (time : ℕ) → i.earliest ≤ time → time ≤ i.latest → within i time ≡ true
-holds_within i time h g = and_from _ _ (le-leb i.earliest time h) (le-leb time i.latest g)
 
 -- where there is no reading too few meet
 none_fused : (n : ℕ) (is : List Interval) (r : Reading) → 1 ≤ n → is ≡ [] → Fuses n (sharing is) r → Unread r

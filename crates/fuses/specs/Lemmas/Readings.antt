@@ -3,7 +3,7 @@ use Rattle.std.proofs.Common.{◌≡◌, ℕ, suc, ◌+◌, ◌≤◌, min, max,
 use mathlib.Core.Path.{fun_ext}
 use Rattle.std.specs.List.{All, Contains}
 use Rattle.std.specs.List.Sorted.{IsPermutation}
-use Rattle.std.proofs.lemmas.Bool.{leb-true, le-leb, ltb-true, ltb-false, lt-ltb, not-true, true_from_ne_false}
+use Rattle.std.proofs.lemmas.Bool.{leb-true, le-leb, ltb-true, ltb-false, lt-ltb, and_from, not-true, true_from_ne_false}
 use Rattle.std.proofs.lemmas.Bool.Decides.{nat_tests}
 use Rattle.std.proofs.lemmas.List.{length-map}
 use Rattle.std.proofs.lemmas.List.Elements.{All-map}
@@ -17,6 +17,9 @@ use Rattle.clocks.specs.Intervals.{within}
 use Rattle.fuses.specs.Sharing.{sharing, Fuses, fused_from, fused, shared_by}
 use Rattle.fuses.specs.Lemmas.Meaning.{Covers, times_fuse, only}
 use Rattle.fuses.specs.Lemmas.Outermost.{Before, After, low, high, outermost}
+
+pub holds_within : (i : Interval) (time : ℕ) → i.earliest ≤ time → time ≤ i.latest → within i time ≡ true
+holds_within i time h g = and_from _ _ (le-leb i.earliest time h) (le-leb time i.latest g)
 
 one_at_most : (a b : Bool) → (a ≡ true → b ≡ true) → cond a 1 0 ≤ cond b 1 0
 one_at_most true b h = subst (λ x. 1 ≤ cond x 1 0) (sym (h refl)) (omega arith)

@@ -1,17 +1,17 @@
 // What readings share, by where they begin and where they end.
-ghost use Rattle.std.specs.Prelude.{◌≡◌, ℕ, ◌<◌, ◌≤◌, List, length, nat_le, MatchOption};
+ghost use Rattle.std.specs.Prelude.{◌≡◌, ℕ, ◌-◌, ◌<◌, ◌≤◌, List, length, drop, nat_le, MatchOption};
 ghost use Rattle.clocks.specs.declared.interval.Interval.{Interval};
 ghost use Rattle.fuses.specs.Sharing.{too_few, sharing, Smallest, Most, Fuses};
-ghost use Rattle.fuses.specs.Bounds.{HasBounds, shared_in, without_ended, first_begin, last_end};
+ghost use Rattle.fuses.specs.Bounds.{HasBounds, without_ended, stretched};
 
 use super::rising::Rising;
 use clocks::interval::Interval;
 use rows::fault::{Cause, Fault};
 
-#[derive(Drop)]
-pub(super) struct Bounds {
-    pub(super) begins: Rising,
-    pub(super) ends: Rising,
+#[derive(Clone, Copy)]
+pub(super) struct Bounds<'a> {
+    pub(super) begins: Rising<'a>,
+    pub(super) ends: Rising<'a>,
 }
 
 fn too_few(most: u8) -> Fault
@@ -31,66 +31,54 @@ fn without_ended(ends: &[u64], time: u64) -> &[u64]
     }
 }
 
-impl Bounds {
-    // How many share the time: they have begun, and have not ended before it.
-    fn shared_at(&self, time: u64) -> u8
-        ensures { result ≡ shared_in self.now time }
-    {
-        self.begins
-            .up_to(time)
-            .saturating_sub(self.ends.before(time))
-    }
+// Whether a beginning leaves a time to share with the end that it goes with: at the end itself it does.
+fn meets(begin: u64, end: u64) -> bool
+    ensures { result ≡ nat_le begin end }
+{
+    begin <= end
+}
 
-    // Whether so many share the time.
-    fn enough_at(&self, time: u64, need: u8) -> bool
-        ensures { result ≡ nat_le need (shared_in self.now time) }
-    {
-        need <= self.shared_at(time)
-    }
+// From the first beginning to the last end, with one beginning and one end more.
+fn stretched(span: Option<(u64, u64)>, begin: u64, end: u64) -> (u64, u64)
+    ensures { result ≡ stretched span begin end }
+{
+    (span.map_or(begin, |(lowest, _)| lowest), end)
+}
 
+impl<'a> Bounds<'a> {
     // The most that share one time: the ends left when each beginning has left out one before it.
     fn most_shared(&self) -> u8
         ensures { (is : List Interval) → HasBounds is self.now → Most (sharing is) result }
     {
-        let mut left = self.ends.times.as_slice();
-        for begin in self.begins.times.iter() {
+        let mut left = self.ends.times;
+        for begin in self.begins.times {
             left = without_ended(left, *begin);
         }
         left.len() as u8
     }
 
-    // The lowest time that enough share: some reading begins there, and the first `need - 1` are too few.
-    fn lowest_shared(&self, need: u8) -> Option<u64>
-        ensures { result ≡ first_begin need self.now.begins.times.items self.now.ends.times.items }
+    // The beginnings from the number `need` on: before them fewer have begun.
+    fn begun(&self, need: u8) -> Option<&'a [u64]>
+        requires { 1 ≤ need }
+        ensures { MatchOption result (length self.now.begins.times.now < need - 1) (λ begins. begins.now ≡ drop (need - 1) self.now.begins.times.now) }
     {
-        self.begins
-            .times
-            .iter()
-            .copied()
-            .skip(usize::from(need.saturating_sub(1)))
-            .find(|begin| self.enough_at(*begin, need))
+        self.begins.times.get(usize::from(need - 1)..)
     }
 
-    // The highest time that enough share: some reading ends there, and the last `need - 1` are too few.
-    // One function for this and the lowest would take the times in their order: no plainer.
-    fn highest_shared(&self, need: u8) -> Option<u64>
-        ensures { result ≡ last_end need self.now.begins.times.items self.now.ends.times.items }
-    {
-        self.ends
-            .times
-            .iter()
-            .rev()
-            .copied()
-            .skip(usize::from(need.saturating_sub(1)))
-            .find(|end| self.enough_at(*end, need))
-    }
-
-    // From the lowest to the highest time that enough share.
+    // From the lowest to the highest time that enough share. The first end goes with the beginning number `need`,
+    // the next with the next: where a beginning is no later than its end, enough share both.
     fn span_shared(&self, need: u8) -> Option<Interval>
         requires { 1 ≤ need }
         ensures { (is : List Interval) → HasBounds is self.now → MatchOption result ((time : ℕ) → sharing is time < need) (Smallest need (sharing is)) }
     {
-        Interval::new(self.lowest_shared(need)?, self.highest_shared(need)?)
+        let mut span = None;
+        for (begin, end) in self.begun(need)?.iter().zip(self.ends.times) {
+            if meets(*begin, *end) {
+                span = Some(stretched(span, *begin, *end));
+            }
+        }
+        let (lowest, highest) = span?;
+        Interval::new(lowest, highest)
     }
 
     // What the readings fuse to.
@@ -98,7 +86,9 @@ impl Bounds {
         requires { 1 ≤ need }
         ensures { (is : List Interval) → HasBounds is self.now → Fuses need (sharing is) result }
     {
-        self.span_shared(need)
-            .ok_or_else(|| too_few(self.most_shared()))
+        let Some(span) = self.span_shared(need) else {
+            return Err(too_few(self.most_shared()));
+        };
+        Ok(span)
     }
 }

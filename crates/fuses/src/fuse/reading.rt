@@ -5,7 +5,9 @@ ghost use Rattle.fuses.specs.Sharing.{intervals_of, fused};
 ghost use Rattle.fuses.specs.Lemmas.Fuses.{fuse_keeps};
 
 use super::Fuse;
-use super::gather::gather;
+use super::bounds::Bounds;
+use super::gather::{Times, gather};
+use super::rising::Rising;
 use clocks::bank::Bank;
 use clocks::clock::Clock;
 use clocks::interval::Interval;
@@ -54,7 +56,14 @@ impl<B: Bank> Fuse<B> {
     fn agreed(&self) -> Result<Interval, Fault>
         ensures { result ≡ fused (need (B.Bank.size self.now.bank) self.now.tolerated) (intervals_of (members B.Bank self.now.bank)) }
     {
-        gather(&self.bank).fused(self.need())
+        let mut begins = Times::new();
+        let mut ends = Times::new();
+        gather(&self.bank, &mut begins, &mut ends);
+        let bounds = Bounds {
+            begins: Rising::sorted(begins.as_mut_slice()),
+            ends: Rising::sorted(ends.as_mut_slice()),
+        };
+        bounds.fused(self.need())
     }
 }
 

@@ -1,41 +1,23 @@
 // Times that rise.
-ghost use Rattle.std.specs.Prelude.{◌≡◌, count_by, nat_le, nat_lt};
+ghost use Rattle.std.specs.Prelude.{◌≤◌, length};
 ghost use Rattle.std.specs.List.Sorted.{IsNonDecreasing, IsPermutation};
-
-use arrayvec::ArrayVec;
-
-// As many as a bank has at most, so that an instant needs no memory from outside.
-const MOST_MEMBERS: usize = 255;
+ghost use Rattle.rows.specs.Limits.{most_members};
 
 // No `Model`: what is found among them rests on that they rise, which a value would not show.
-#[derive(Drop)]
-pub(super) struct Rising {
-    pub(super) times: ArrayVec<u64, MOST_MEMBERS>,
-    ghost rising: { IsNonDecreasing times.items },
+#[derive(Clone, Copy)]
+pub(super) struct Rising<'a> {
+    pub(super) times: &'a [u64],
+    ghost few: { length times.now ≤ most_members },
+    ghost rising: { IsNonDecreasing times.now },
 }
 
-impl Rising {
-    // Inlined, so that the times are not moved once more.
-    #[inline(always)]
-    pub(super) fn sorted(mut times: ArrayVec<u64, MOST_MEMBERS>) -> Rising
-        ensures { IsPermutation times.items result.times.items }
+impl<'a> Rising<'a> {
+    // Sorted where they lie, so that no time is moved but to its place.
+    pub(super) fn sorted(times: &'a mut [u64]) -> Rising<'a>
+        requires { length times.old ≤ most_members }
+        ensures { IsPermutation times.old result.times.now }
     {
         times.sort_unstable();
         Rising { times }
-    }
-
-    // How many are at the time or before it.
-    // It and `before` stay two: one that takes the test needs a longer contract.
-    pub(super) fn up_to(&self, time: u64) -> u8
-        ensures { result ≡ count_by (λ n. nat_le n time) self.now.times.items }
-    {
-        self.times.partition_point(|n| *n <= time) as u8
-    }
-
-    // How many are before the time.
-    pub(super) fn before(&self, time: u64) -> u8
-        ensures { result ≡ count_by (λ n. nat_lt n time) self.now.times.items }
-    {
-        self.times.partition_point(|n| *n < time) as u8
     }
 }

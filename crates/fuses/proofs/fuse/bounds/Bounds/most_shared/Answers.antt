@@ -7,5 +7,5 @@ use Rattle.fuses.proofs.fuse.bounds.Bounds.most_shared.Goals as goal
 pub returns : goal.returns
 returns c = λ is of.
     let bounds = c.args.self.now in
-    let all = c.loop-begin.invariant.left ∙ ap (λ begins. ends_left begins bounds.ends.times.items) (take_all c.loop-begin.begin-index bounds.begins.times.items (omega (arith, ap length c.deref-begin-items.ensures.0))) in
+    let all = c.loop-begin.invariant.left ∙ ap (λ begins. ends_left begins bounds.ends.times.now) (take_all c.loop-begin.begin-index bounds.begins.times.now (omega arith)) in
     subst (Most (sharing is)) (sym (ap length all)) (most_is is _ _ of bounds.begins.rising bounds.ends.rising)

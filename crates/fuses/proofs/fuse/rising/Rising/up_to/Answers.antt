@@ -1,8 +1,0 @@
--- Where the times part is how many pass.
-use Rattle.std.proofs.Common.{leb, rules}
-use Rattle.std.proofs.lemmas.List.Sorted.{IsPartitionedBy-leb}
-use Rattle.fuses.proofs.Bounds.{counts_at_point}
-use Rattle.fuses.proofs.fuse.rising.Rising.up_to.Goals as goal
-
-pub returns : goal.returns
-returns c = counts_at_point (λ n. leb n c.args.time) c.deref.result.now _ _ (search rules) c.partition_point.ensures.bound c.partition_point.ensures.partitioned (IsPartitionedBy-leb (λ n. n) _ c.args.time c.args.self.now.rising) (λ a r q k. search rules)
