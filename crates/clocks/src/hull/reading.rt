@@ -31,11 +31,11 @@ impl<C: Clock> Hull<C> {
         ensures made { result ≡ hull_made C.Clock below }
         ensures rises { NeverFalls C.Clock result }
     {
-        let reading = below.query();
+        // No reading yet: `restart` works it out.
         let mut hull = Hull {
             below,
             kept: 0,
-            reading,
+            reading: Err(Fault::new(Cause::Crossed, 0)),
         };
         hull.restart();
         hull

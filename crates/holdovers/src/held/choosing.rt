@@ -71,9 +71,9 @@ impl Held {
     ) -> Held
         ensures { result ≡ held_over rate self.base heard below }
     {
-        match heard {
-            Some(count) => self.counted(rate, count, below),
-            None => Held::without_base(below),
-        }
+        let Some(count) = heard else {
+            return Held::without_base(below);
+        };
+        self.counted(rate, count, below)
     }
 }

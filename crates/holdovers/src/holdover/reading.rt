@@ -9,7 +9,7 @@ use crate::held::Held;
 use clocks::clock::Clock;
 use clocks::interval::Interval;
 use rows::channel::Channel;
-use rows::fault::Fault;
+use rows::fault::{Cause, Fault};
 use rows::rate::Rate;
 use rows::refusal::Refusal;
 use rows::row::Row;
@@ -30,12 +30,12 @@ impl<C: Clock + Drop> Holdover<C> {
     {
         let channel = Channel::try_from(channel)?;
         let rate = Rate::try_from(rate)?;
-        let held = Held::without_base(below.query());
+        // No reading yet: `restart` works it out.
         let mut holdover = Holdover {
             below,
             channel,
             rate,
-            held,
+            held: Held::without_base(Err(Fault::new(Cause::Unheard, 0))),
         };
         holdover.restart();
         Ok(holdover)
